@@ -1,0 +1,11 @@
+pub mod Cutting
+pub mod Dots
+pub mod Dropping
+pub mod Every
+pub mod Following
+pub mod Forming
+pub mod Lasts
+pub mod Laws
+pub mod Reading
+pub mod Storing
+pub mod Texts

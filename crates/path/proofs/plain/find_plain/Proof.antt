@@ -1,0 +1,43 @@
+-- `plain::find_plain` meets its contract.
+use native.Mathlib.Omega.{arith}
+use Rattle.path.proofs.Following.{plain-absolute, plain-relative}
+use borrow.Author.Needs.{needs}
+use Rattle.path.proofs.plain.find_plain.Statement.{statement}
+use Rattle.path.proofs.plain.find_plain.Tie as tie
+
+returns : tie.Need-returns
+returns c = search needs
+
+shared-slice-read-if2 : tie.Need-shared-slice-read-if2
+shared-slice-read-if2 c = search needs
+
+all-names-requires : tie.Need-all-names-requires
+all-names-requires c κs = search needs
+
+returns-2 : tie.Need-returns-2
+returns-2 c = plain-absolute _ (omega arith) (c .before .before .if2 .taken) (c .before .all-names .ensures (c .if3 .taken))
+
+returns-3 : tie.Need-returns-3
+returns-3 c = search needs
+
+all-names-requires-2 : tie.Need-all-names-requires-2
+all-names-requires-2 c κs = search needs
+
+returns-4 : tie.Need-returns-4
+returns-4 c = plain-relative _ (c .before .all-names2 .ensures (c .if4 .taken))
+
+returns-5 : tie.Need-returns-5
+returns-5 c = search needs
+
+pub find-plain-spec : {M : Type 1} → statement M
+find-plain-spec =
+    tie.close
+    (tie.spec
+    returns
+    shared-slice-read-if2
+    all-names-requires
+    returns-2
+    returns-3
+    all-names-requires-2
+    returns-4
+    returns-5)

@@ -1,0 +1,77 @@
+-- What the functions that form a path answer, and what they leave in the lent buffer.
+-- Assumes nothing.
+use mathlib.Core.Bool.{Bool, true, false, cond}
+use mathlib.Core.List.{List, [], _∷_, _++_}
+use mathlib.Core.Path.{_≡_}
+use Prim.Native.Nat.{ℕ, _+_, _-_, _≤_, _<_}
+use lib.Dec.{leb}
+use lib.ListN.{length, drop}
+use Rattle.text.specs.Utf8.{Bytes}
+use Rattle.path.specs.Path.{Name, pieces, normal, absolute, body, lastName}
+use Rattle.path.specs.Backward.{sift, sifted, mk, front, part}
+use Rattle.path.specs.declared.answer.Formed.{Formed}
+use Rattle.path.specs.declared.answer.Formed.the-variants.{Text, TooLong}
+use Rattle.path.specs.declared.answer.Kept.{Kept}
+use Rattle.path.specs.declared.answer.Last.{Last}
+use Rattle.path.specs.declared.answer.Last.the-variants.{At, Left}
+use Rattle.path.specs.declared.answer.Place.{Place}
+use Rattle.path.specs.declared.answer.Place.the-variants.{InPath, InCwd, Nowhere}
+use Rattle.path.specs.declared.plain.Plain.{Plain}
+use Rattle.path.specs.declared.plain.Plain.the-variants.{From, No}
+use Rattle.path.specs.declared.sifting.Back.{Back}
+use Rattle.path.specs.declared.sifting.Back.the-variants.{Gone, Keeps}
+
+abbrev pub pick : Bool → Formed → Formed → Formed
+pick true a b = a
+pick false a b = b
+
+-- the length of the text t, or refusal 6
+unfoldable pub formed : Bytes → Formed
+formed t = pick (leb (length t) 1024) (Text (length t)) TooLong
+
+-- the text t stands in front and nothing else is changed; a refusal changes nothing
+unfoldable pub written : Bytes → Bytes → Bytes
+written t before = cond (leb (length t) 1024) (t ++ drop (length t) before) before
+
+-- the answer and the buffer, before and after, of a function that forms the text t
+pub record Forms (t before after : Bytes) (r : Formed) : Type 0 where
+  pub answer : r ≡ formed t
+  pub buffer : after ≡ written t before
+
+-- 01's number for each answer: 0, accepted, or 6
+abbrev pub refusalOf : Formed → ℕ
+refusalOf (Text n) = 0
+refusalOf TooLong = 6
+
+-- the last name of the path once absolute is that part of the path or of the current directory; Nowhere: it is the root
+abbrev pub PlaceIs : Place → Bytes → Bytes → Type 0
+PlaceIs (InPath a e) path cwd = (a ≤ e) × (e ≤ length path) × (lastName (absolute (normal cwd) path) ≡ part a e path)
+PlaceIs (InCwd a e) path cwd = (a ≤ e) × (e ≤ length cwd) × (lastName (absolute (normal cwd) path) ≡ part a e cwd)
+PlaceIs Nowhere path cwd = absolute (normal cwd) path ≡ []
+
+-- what a text keeps, where what stands behind it drops k names
+pub record KeptIs (strike : Bool) (s : Bytes) (k : ℕ) (r : Kept) : Type 0 where
+  pub skip : r .skip ≡ sifted strike k s .skip
+  pub len : r .len ≡ length (body (sifted strike k s .kept))
+  pub few : r .skip ≤ k + length s + 1
+
+-- the pieces are all kept, whether `..` is a name or drops one
+abbrev pub AllNames : Bytes → Type 0
+AllNames s = (strike : Bool) → sift strike (pieces s) (mk 0 []) ≡ mk 0 (pieces s)
+
+-- From: the pieces from there on are all kept, and nothing else is
+abbrev pub PlainIs : Plain → Bytes → Type 0
+PlainIs (From a) s = (a ≤ length s) × ((strike : Bool) → sifted strike 0 s ≡ mk 0 (pieces (drop a s)))
+PlainIs No s = Unit {0}
+
+-- At: the last name kept stands from a to e. Left: none is kept, and j names in front of the text are dropped
+abbrev pub LastIs : Last → Bytes → ℕ → Type 0
+LastIs (At a e) s k = (a ≤ e) × (e ≤ length s) × (init : List Name) × (sifted true k s .kept ≡ init ++ (part a e s ∷ []))
+LastIs (Left j) s k = (sifted true k s ≡ mk j []) × (j ≤ k + length s + 1)
+
+-- Gone: what is left of the pieces keeps the same names behind it, with k still to drop. Keeps: the name from a on is kept
+abbrev pub BackIs : Bool → Bytes → ℕ → ℕ → Back → Type 0
+BackIs strike s rest skip (Gone a k) =
+    (a < rest) × (k ≤ skip + 1) × ((ns : List Name) → sift strike (front rest s) (mk skip ns) ≡ sift strike (front a s) (mk k ns))
+BackIs strike s rest skip (Keeps a) =
+    (a < rest) × ((ns : List Name) → sift strike (front rest s) (mk skip ns) ≡ sift strike (front a s) (mk skip (part a (rest - 1) s ∷ ns)))

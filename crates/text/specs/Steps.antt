@@ -1,0 +1,14 @@
+-- What the steps of the walk test: the ranges of octets that they speak of.
+-- Assumes nothing.
+use mathlib.Core.List.{[]}
+use Prim.Native.Nat.{ℕ}
+use lib.ListN.{getD}
+use Rattle.text.specs.Utf8.{Range, to, tail, rows}
+
+-- UTF8-1, without the zero byte
+abbrev pub plain : Range
+plain = to 0x01 0x7F
+
+-- the second range of the row that the class `lead` begins
+unfoldable pub secondOf : ℕ → Range
+secondOf lead = getD (getD rows lead []) 1 tail
