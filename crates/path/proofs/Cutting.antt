@@ -4,14 +4,16 @@ use mathlib.Core.Bool.{Bool, true, false}
 use mathlib.Core.List.{List, [], _∷_, _++_, cons-ne-nil}
 use mathlib.Core.Path.{_≡_, refl, sym, ap, _∙_}
 use Prim.Native.Nat.{ℕ, zero, suc, _+_, _-_, _≤_, _<_}
+use native.Mathlib.Numerals.{add-one}
 use native.Mathlib.Omega.{arith}
 use lib.Dec.{eqb}
-use lib.ListN.{length, take, getD, length-take, length-drop}
-use lib.Seq.{append-snoc, drop-cons, take-add, take-suc}
+use lib.ListN.{length, take, drop, getD, length-take, length-drop}
+use lib.Seq.{append-snoc, drop-cons, drop-drop, take-add, take-suc}
 use borrow.Author.Tests.{ne-eqb, eqb-false}
 use Rattle.text.specs.Utf8.{Bytes}
 use Rattle.path.specs.Path.{Name, cut, pieces}
 use Rattle.path.specs.Backward.{front, part}
+use Rattle.path.specs.Answer.{PieceIs}
 use Rattle.path.proofs.Every.{Every}
 
 -- ---- cutting
@@ -50,9 +52,6 @@ whole [] h = refl
 whole (b ∷ n) h = rw (ne-eqb b 47 (h .0), whole n (h .1))
 
 -- it joins the first piece of what follows
-pub pieces-name : (n : Name) (s : Bytes) → NoSlash n → pieces (n ++ (47 ∷ s)) ≡ n ∷ pieces s
-pieces-name n s h = pieces-append n s ∙ ap (λ (ps : List Name). ps ++ pieces s) (whole n h)
-
 pub pieces-join : (n t : Bytes) (h : Name) (r : List Name) → NoSlash n → pieces t ≡ h ∷ r → pieces (n ++ t) ≡ (n ++ h) ∷ r
 unfolding pieces
 pieces-join [] t h r w e = e
@@ -74,7 +73,7 @@ pieces-no-slash (b ∷ s) = go (pieces s) (pieces-no-slash s) (eqb b 47) refl
 pub part-empty : (e : ℕ) (s : Bytes) → part e e s ≡ []
 part-empty e s = let z : e - e ≡ 0 = omega arith in rw z
 
-part-cons : (a e : ℕ) (s : Bytes) → a < e → e ≤ length s → part a e s ≡ getD s a 0 ∷ part (suc a) e s
+pub part-cons : (a e : ℕ) (s : Bytes) → a < e → e ≤ length s → part a e s ≡ getD s a 0 ∷ part (suc a) e s
 part-cons a e s h k =
     let n : e - a ≡ suc (e - suc a) = omega arith in
     let l : a < length s = omega arith in
@@ -88,22 +87,37 @@ take-part a e s h =
     let n : e ≡ a + (e - a) = omega arith in
     ap (λ (k : ℕ). take k s) n ∙ take-add a (e - a) s
 
+-- a part cut in two
+pub part-append : (a b e : ℕ) (s : Bytes) → a ≤ b → b ≤ e → part a e s ≡ part a b s ++ part b e s
+part-append a b e s h k =
+    let n : e - a - (b - a) ≡ e - b = omega arith in
+    let m : a + (b - a) ≡ b = omega arith in
+    take-part (b - a) (e - a) (drop a s) (omega arith) ∙ rw (drop-drop, n, m)
+
+-- a part cut in two at a slash
+pub part-cut : (a b e : ℕ) (s : Bytes) → a ≤ b → b < e → e ≤ length s → getD s b 0 ≡ 47 → pieces (part a e s) ≡ pieces (part a b s) ++ pieces (part (suc b) e s)
+part-cut a b e s h k l q = rw (part-append a b e s h (omega arith), part-cons b e s k l, q) (pieces-append (part a b s) (part (suc b) e s))
+
 pub part-step : (a e : ℕ) (s : Bytes) → 0 < a → a ≤ e → e ≤ length s → part (a - 1) e s ≡ getD s (a - 1) 0 ∷ part a e s
 part-step a e s z h k =
     let q : suc (a - 1) ≡ a = omega arith in
     rw q at (part-cons (a - 1) e s (omega arith) k)
 
--- ---- the last piece
+-- ---- the last pieces
 
-pub at-slash : (s : Bytes) (a : ℕ) → getD s (a - 1) 0 ≡ 47 → (k : ℕ) → a ≡ suc k → getD s k 0 ≡ 47
-at-slash s a h k q = let e : k ≡ a - 1 = omega arith in rw e h
-
-pub last-piece : (s : Bytes) (a e : ℕ) → a ≤ e → e ≤ length s → NoSlash (part a e s)
-    → ((k : ℕ) → a ≡ suc k → getD s k 0 ≡ 47)
-    → front (suc e) s ≡ front a s ++ (part a e s ∷ [])
+-- what stands in front of a slash, or of the whole text, and then the pieces from there on
+pub front-part : (s : Bytes) (a e : ℕ) → a ≤ e → e ≤ length s → (0 < a → getD s (a - 1) 0 ≡ 47)
+    → front (suc e) s ≡ front a s ++ pieces (part a e s)
 unfolding front
-last-piece s zero e h l w f = rw (take-part 0 e s h) (whole (part 0 e s) w)
-last-piece s (suc k) e h l w f =
+front-part s zero e h l f = rw (take-part 0 e s h)
+front-part s (suc k) e h l f =
     let i : k < length s = omega arith in
-    rw (take-part (suc k) e s h, take-suc s k 0 i, f k refl, append-snoc)
-    (pieces-append (take k s) (part (suc k) e s) ∙ ap (λ (r : List Name). pieces (take k s) ++ r) (whole (part (suc k) e s) w))
+    let m : suc k - 1 ≡ k = omega arith in
+    let q : getD s k 0 ≡ 47 = rw m at (f (omega arith)) in
+    rw (take-part (suc k) e s h, take-suc s k 0 i, q, append-snoc) (pieces-append (take k s) (part (suc k) e s))
+
+-- a stretch without a slash behind one
+pub piece-is : (s : Bytes) (a e : ℕ) → a ≤ e → e ≤ length s → NoSlash (part a e s) → (0 < a → getD s (a - 1) 0 ≡ 47) → PieceIs s a e
+piece-is s a e h l w f =
+    let o = whole (part a e s) w in
+    record { fits = h; last = rw add-one (front-part s a e h l f ∙ ap (λ (r : List Name). front a s ++ r) o); one = o; slash = f }

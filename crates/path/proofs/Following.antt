@@ -1,24 +1,25 @@
 -- A text in which no slash is followed by a slash, by a dot or by nothing, and which does not begin so, has only names for
 -- pieces.
 -- Assumes nothing.
-use mathlib.Core.Bool.{Bool, true, false, _&&_, _||_, not}
+use mathlib.Core.Bool.{Bool, true, false, _&&_, _||_}
 use mathlib.Core.List.{List, [], _∷_, _++_}
 use mathlib.Core.Path.{_≡_, refl, sym, ap, _∙_, subst}
-use Prim.Native.Nat.{ℕ, suc, _+_, _-_, _≤_, _<_, zero-le}
+use Prim.Native.Nat.{ℕ, zero, suc, _+_, _-_, _≤_, _<_, zero-le}
 use native.Mathlib.Nat.{le-refl}
 use native.Mathlib.Numerals.{add-one}
 use native.Mathlib.Omega.{arith}
-use lib.Dec.{eqb}
-use lib.ListN.{length, take, drop, getD, length-drop, drop-of-length-le}
-use lib.Seq.{drop-cons, take-length}
-use borrow.Author.Tests.{eq-eqb, eqb-true, eqb-false, not-true}
+use lib.Dec.{eqb, ltb}
+use lib.ListN.{length, take, drop, getD, length-drop, take-append-drop}
+use lib.Seq.{take-length}
+use borrow.Author.Count.{below-more}
+use borrow.Author.Tests.{eq-eqb, eqb-true, eqb-false, ltb-true, ltb-false}
 use Rattle.text.specs.Utf8.{Bytes}
 use Rattle.path.specs.Path.{Name, cut, pieces, body}
-use Rattle.path.specs.Backward.{Sifted, kindOf, mk, siftOne, sift, sifted}
-use Rattle.path.specs.Answer.{AllNames, PlainIs}
+use Rattle.path.specs.Backward.{Sifted, kindOf, mk, siftOne, sift, sifted, part}
+use Rattle.path.specs.Answer.{AllNames, Clean, PlainIs}
 use Rattle.path.specs.declared.plain.Plain.{Plain}
 use Rattle.path.specs.declared.plain.Plain.the-variants.{From}
-use Rattle.path.proofs.Cutting.{first}
+use Rattle.path.proofs.Cutting.{first, part-empty, part-cons}
 use Rattle.path.proofs.Dots.{kind-none, kind-other}
 use Rattle.path.proofs.Dropping.{body-pieces}
 use Rattle.path.proofs.Every.{Every}
@@ -81,31 +82,42 @@ pair x y e q =
     let w = or-false (eqb y 47) (eqb y 46) f in
     (eqb-false y 47 (w .0), eqb-false y 46 (w .1))
 
--- what was passed is right if what is left is
-abbrev pub Passed : Bytes → ℕ → ℕ → Bool → Type 0
-Passed s from i bad = bad ≡ false → Follows (getD s (i - 1) 0) (drop i s) → Follows (getD s from 0) (drop (from + 1) s)
+-- a byte more
+pub clean-more : (s : Bytes) (a i : ℕ) (bad : Bool) → (bad ≡ false → Clean s a i)
+    → bad || (eqb (getD s i 0) 47 && (eqb (getD s (i + 1) 0) 47 || eqb (getD s (i + 1) 0) 46)) ≡ false → Clean s a (i + 1)
+clean-more s a i bad w e =
+    let o = or-false bad (eqb (getD s i 0) 47 && (eqb (getD s (i + 1) 0) 47 || eqb (getD s (i + 1) 0) 46)) e in
+    below-more _ i (w (o .0)) (λ _. pair (getD s i 0) (getD s (i + 1) 0) (o .1))
 
-module _ (s : Bytes) (from : ℕ) where
-  pub passed-none : (bad : Bool) → Passed s from (from + 1) bad
-  passed-none bad z f = let e : from + 1 - 1 ≡ from = omega arith in rw e at f
+-- two stretches side by side
+pub clean-join : (s : Bytes) (a b e : ℕ) → Clean s a b → Clean s b e → Clean s a e
+clean-join s a b e x y k l h = go (ltb k b) refl
+  where
+    go : (t : Bool) → ltb k b ≡ t → getD s k 0 ≡ 47 → (getD s (k + 1) 0 ≡ 47 → ⊥) × (getD s (k + 1) 0 ≡ 46 → ⊥)
+    go true q = x k (ltb-true k b q) h
+    go false q = y k l (ltb-false k b q)
 
-  pub passed-more : (i : ℕ) (bad : Bool) → 0 < i → i < length s → Passed s from i bad
-      → Passed s from (i + 1) (bad || (eqb (getD s (i - 1) 0) 47 && (eqb (getD s i 0) 47 || eqb (getD s i 0) 46)))
+module _ (s : Bytes) (e : ℕ) (fits : e ≤ length s) (last : getD s (e - 1) 0 ≡ 47 → ⊥) where
+  -- behind each byte of a clean part comes what may
+  clean-follows : (n a : ℕ) → a + suc n ≡ e → Clean s a (e - 1) → Follows (getD s a 0) (part (suc a) e s)
   unfolding Follows
-  passed-more i bad z l w e f =
-      let o = or-false bad (eqb (getD s (i - 1) 0) 47 && (eqb (getD s i 0) 47 || eqb (getD s i 0) 46)) e in
-      let p : i + 1 - 1 ≡ i = omega arith in
-      let g : Follows (getD s i 0) (drop (suc i) s) = rw (p, add-one) at f in
-      w (o .0) (rw (drop-cons s i 0 l) (pair (getD s (i - 1) 0) (getD s i 0) (o .1), g))
+  clean-follows zero a q w =
+      let m : e ≡ suc a = omega arith in
+      let p : a ≡ e - 1 = omega arith in
+      let z : part (suc a) e s ≡ [] = rw m (part-empty (suc a) s) in
+      rw z (λ h. last (rw p at h))
+  clean-follows (suc n) a q w =
+      let h = w a (omega arith) (le-refl a) in
+      rw (part-cons (suc a) e s (omega arith) fits) (rw add-one at h, clean-follows n (suc a) (omega arith) (λ k l g. w k l (omega arith)))
 
-  pub passed-all : (i : ℕ) (bad : Bool) → from < length s → (getD s from 0 ≡ 46 → ⊥) → (getD s from 0 ≡ 47 → ⊥) → i ≡ length s → Passed s from i bad
-      → (bad ≡ false → getD s (length s - 1) 0 ≡ 47 → ⊥) → not bad ≡ true → AllNames (drop from s)
+  -- a clean part that neither begins nor ends like a piece that is no name
+  pub clean-names : (a : ℕ) → a < e → (getD s a 0 ≡ 47 → ⊥) → (getD s a 0 ≡ 46 → ⊥) → Clean s a (e - 1) → AllNames (part a e s)
   unfolding Follows
-  passed-all i bad l d h e w last t =
-      let n : bad ≡ false = not-true bad t in
-      let k : Follows (getD s (i - 1) 0) (drop i s) = rw (e, drop-of-length-le s (le-refl (length s))) (last n) in
-      let g : Follows (getD s from 0) (drop (suc from) s) = rw add-one at (w n k) in
-      all-names (drop from s) (rw (drop-cons s from 0 l) ((λ q. (h, d)), g))
+  clean-names a l h d w = all-names (part a e s) (rw (part-cons a e s l fits) ((λ q. (h, d)), clean-follows (e - suc a) a (omega arith) w))
+
+-- the part of the slice behind a is all that stands there
+pub plain-part : (s : Bytes) (a : ℕ) → part a (length s) s ≡ drop a s
+plain-part s a = let n : length s - a ≡ length (drop a s) = sym (length-drop a s) in rw n (take-length (drop a s))
 
 -- ---- the slash in front
 
@@ -115,6 +127,12 @@ plain-relative s h = (zero-le, h)
 
 one-gone : (strike : Bool) (z : Sifted) → siftOne (kindOf strike []) [] z ≡ z
 one-gone strike z = ap (λ (k : ℕ). siftOne k [] z) (kind-none strike [] refl)
+
+-- no text keeps nothing
+pub sifted-empty : (strike : Bool) (k : ℕ) (s : Bytes) → length s ≡ 0 → sifted strike k s ≡ mk k []
+unfolding sifted pieces sift
+sifted-empty strike k [] l = one-gone strike (mk k [])
+sifted-empty strike k (b ∷ s) l = absurd (omega arith)
 
 pub plain-absolute : (s : Bytes) → 0 < length s → getD s 0 0 ≡ 47 → AllNames (drop 1 s) → PlainIs (From 1) s
 unfolding sifted pieces sift
@@ -137,10 +155,6 @@ module _ (s : Bytes) (a : ℕ) (w : PlainIs (From a) s) where
   pub plain-length : (strike : Bool) (k : ℕ) → k ≡ 0 → length s - a + 1 ≡ length (body (sifted strike k s .kept))
   plain-length strike k e = rw (plain-body strike k e) (omega (arith, length-drop a s, w .0))
 
-  -- the part of the slice behind a is all that stands there
-  pub plain-part : take (length s - a) (drop a s) ≡ drop a s
-  plain-part = let n : length s - a ≡ length (drop a s) = sym (length-drop a s) in rw n (take-length (drop a s))
-
 pub plain-told : {r x : Plain} (s : Bytes) → r ≡ x → PlainIs r s → PlainIs x s
 plain-told s e w = subst (λ (y : Plain). PlainIs y s) e w
 
@@ -151,3 +165,11 @@ plain-stored out after t u end at eu ea fits w =
     let n : at + 1 + length t ≡ end = omega (arith, ap length eu) in
     w ∙ ap (λ (k : ℕ). take at out ++ ((47 ∷ t) ++ drop k out)) n ∙ ap (λ (x : Bytes). take at out ++ (x ++ drop end out)) eu
     ∙ ap (λ (k : ℕ). take k out ++ (u ++ drop end out)) ea
+
+-- of no text nothing is stored
+pub empty-stored : (strike : Bool) (k : ℕ) (s out : Bytes) (end : ℕ) → length s ≡ 0
+    → out ≡ take (end - length (body (sifted strike k s .kept))) out ++ (body (sifted strike k s .kept) ++ drop end out)
+unfolding body
+empty-stored strike k s out end l =
+    let n : end - 0 ≡ end = omega arith in
+    rw (sifted-empty strike k s l, n) (sym (take-append-drop end out))

@@ -7,5 +7,6 @@ pub mod Forming
 pub mod Lasts
 pub mod Laws
 pub mod Reading
+pub mod Running
 pub mod Storing
 pub mod Texts

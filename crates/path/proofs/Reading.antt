@@ -13,48 +13,49 @@ use lib.Seq.{append-snoc, take-length}
 use Rattle.text.specs.Utf8.{Bytes}
 use Rattle.path.specs.Path.{Name, pieces, vanishes, isUp, keep, names, norm, body}
 use Rattle.path.specs.Backward.{kindBy, kindOf, Sifted, mk, keepOne, siftOne, sift, sifted, front, part, dropN}
-use Rattle.path.specs.Answer.{BackIs}
+use Rattle.path.specs.Answer.{PieceIs, BackIs}
 use Rattle.path.specs.declared.sifting.Back.{Back}
 use Rattle.path.specs.declared.sifting.Back.the-variants.{Gone, Keeps}
 
 -- ---- sift
 
-sift-append : (strike : Bool) (x y : List Name) (z : Sifted) → sift strike (x ++ y) z ≡ sift strike x (sift strike y z)
+pub sift-append : (strike : Bool) (x y : List Name) (z : Sifted) → sift strike (x ++ y) z ≡ sift strike x (sift strike y z)
 unfolding sift
 sift-append strike [] y z = refl
 sift-append strike (n ∷ x) y z = ap (λ (r : Sifted). siftOne (kindOf strike n) n r) (sift-append strike x y z)
 
 -- the last piece is read first
-module _ (strike : Bool) (s : Bytes) (rest a : ℕ) (pos : 0 < rest)
-    (last : front (rest - 1 + 1) s ≡ front a s ++ (part a (rest - 1) s ∷ [])) where
+module _ (strike : Bool) (s : Bytes) (rest a : ℕ) (pos : 0 < rest) (piece : PieceIs s a (rest - 1)) where
   sift-last : (z : Sifted) (k : ℕ) → kindOf strike (part a (rest - 1) s) ≡ k
       → sift strike (front rest s) z ≡ sift strike (front a s) (siftOne k (part a (rest - 1) s) z)
   unfolding sift
   sift-last z k q =
       let p : rest ≡ rest - 1 + 1 = omega arith in
-      ap (λ (x : ℕ). sift strike (front x s) z) p ∙ ap (λ (x : List Name). sift strike x z) last
+      ap (λ (x : ℕ). sift strike (front x s) z) p ∙ ap (λ (x : List Name). sift strike x z) (piece .last)
       ∙ sift-append strike (front a s) (part a (rest - 1) s ∷ []) z
       ∙ ap (λ (x : ℕ). sift strike (front a s) (siftOne x (part a (rest - 1) s) z)) q
 
-  pub back-gone : (skip : ℕ) → a ≤ rest - 1 → kindOf strike (part a (rest - 1) s) ≡ 0 → BackIs strike s rest skip (Gone a skip)
-  back-gone skip l q = (omega arith, omega arith, λ ns. sift-last (mk skip ns) 0 q)
+  pub back-gone : (skip : ℕ) → kindOf strike (part a (rest - 1) s) ≡ 0 → BackIs strike s rest skip (Gone a skip)
+  back-gone skip q = (omega (arith, piece .fits), omega arith, λ ns. sift-last (mk skip ns) 0 q)
 
-  pub back-up : (skip : ℕ) → a ≤ rest - 1 → kindOf strike (part a (rest - 1) s) ≡ 1 → BackIs strike s rest skip (Gone a (skip + 1))
-  back-up skip l q = (omega arith, omega arith, λ ns. rw add-one (sift-last (mk skip ns) 1 q))
+  pub back-up : (skip : ℕ) → kindOf strike (part a (rest - 1) s) ≡ 1 → BackIs strike s rest skip (Gone a (skip + 1))
+  back-up skip q = (omega (arith, piece .fits), omega arith, λ ns. rw add-one (sift-last (mk skip ns) 1 q))
 
-  pub back-dropped : (skip : ℕ) → a ≤ rest - 1 → kindOf strike (part a (rest - 1) s) ≡ 2 → 0 < skip → BackIs strike s rest skip (Gone a (skip - 1))
-  back-dropped skip l q h =
+  pub back-dropped : (skip : ℕ) → kindOf strike (part a (rest - 1) s) ≡ 2 → 0 < skip → BackIs strike s rest skip (Gone a (skip - 1))
+  back-dropped skip q h =
       let p : skip ≡ suc (skip - 1) = omega arith in (
-        omega arith,
+        omega (arith, piece .fits),
         omega arith,
         λ ns. sift-last (mk skip ns) 2 q ∙ ap (λ (x : ℕ). sift strike (front a s) (keepOne x (part a (rest - 1) s) ns)) p,
       )
 
-  pub back-kept : (skip : ℕ) → a ≤ rest - 1 → kindOf strike (part a (rest - 1) s) ≡ 2 → skip ≡ 0 → BackIs strike s rest skip (Keeps a)
-  back-kept skip l q h = (
-    omega arith,
+  pub back-kept : (skip : ℕ) → kindOf strike (part a (rest - 1) s) ≡ 2 → skip ≡ 0 → BackIs strike s rest skip (Keeps a)
+  back-kept skip q h = (
+    omega (arith, piece .fits),
     λ ns. sift-last (mk skip ns) 2 q ∙ ap (λ (x : ℕ). sift strike (front a s) (keepOne x (part a (rest - 1) s) ns)) h
         ∙ ap (λ (x : ℕ). sift strike (front a s) (mk x (part a (rest - 1) s ∷ ns))) (sym h),
+    h,
+    piece,
   )
 
 -- what a known answer says
@@ -182,7 +183,7 @@ one-passive (suc (suc k)) n z ns = go (z .skip)
     go (suc j) = refl
 
 -- what is kept already stays behind
-sift-passive : (strike : Bool) (ps : List Name) (k : ℕ) (ns : List Name)
+pub sift-passive : (strike : Bool) (ps : List Name) (k : ℕ) (ns : List Name)
     → sift strike ps (mk k ns) ≡ mk (sift strike ps (mk k []) .skip) (sift strike ps (mk k []) .kept ++ ns)
 unfolding sift
 sift-passive strike [] k ns = refl

@@ -5,7 +5,7 @@ use mathlib.Core.List.{List, [], _∷_, _++_}
 use mathlib.Core.Path.{_≡_}
 use Prim.Native.Nat.{ℕ, _+_, _-_, _≤_, _<_}
 use lib.Dec.{leb}
-use lib.ListN.{length, drop}
+use lib.ListN.{length, drop, getD}
 use Rattle.text.specs.Utf8.{Bytes}
 use Rattle.path.specs.Path.{Name, pieces, normal, absolute, body, lastName}
 use Rattle.path.specs.Backward.{sift, sifted, mk, front, part}
@@ -69,9 +69,28 @@ abbrev pub LastIs : Last → Bytes → ℕ → Type 0
 LastIs (At a e) s k = (a ≤ e) × (e ≤ length s) × (init : List Name) × (sifted true k s .kept ≡ init ++ (part a e s ∷ []))
 LastIs (Left j) s k = (sifted true k s ≡ mk j []) × (j ≤ k + length s + 1)
 
--- Gone: what is left of the pieces keeps the same names behind it, with k still to drop. Keeps: the name from a on is kept
+-- the piece that ends at e begins at a
+pub record PieceIs (s : Bytes) (a e : ℕ) : Type 0 where
+  pub fits : a ≤ e
+  pub last : front (e + 1) s ≡ front a s ++ (part a e s ∷ [])
+  pub one : pieces (part a e s) ≡ part a e s ∷ []
+  pub slash : 0 < a → getD s (a - 1) 0 ≡ 47
+
+-- no slash from a up to, not including, e has a slash or a dot behind it
+abbrev pub Clean : Bytes → ℕ → ℕ → Type 0
+Clean s a e = (k : ℕ) → k < e → a ≤ k → getD s k 0 ≡ 47 → (getD s (k + 1) 0 ≡ 47 → ⊥) × (getD s (k + 1) 0 ≡ 46 → ⊥)
+
+-- the pieces from r up to the slash before a are all kept, as those from a on are
+abbrev pub RunIs : Bytes → ℕ → ℕ → Type 0
+RunIs s a r =
+    (r ≤ a) × ((strike : Bool) (e : ℕ) (ns : List Name) → a ≤ e → e ≤ length s
+    → sift strike (front a s) (mk 0 (pieces (part a e s) ++ ns)) ≡ sift strike (front r s) (mk 0 (pieces (part r e s) ++ ns)))
+
+-- Gone: what is left of the pieces keeps the same names behind it, with k still to drop. Keeps: the name from a on is kept,
+-- since none is still to drop
 abbrev pub BackIs : Bool → Bytes → ℕ → ℕ → Back → Type 0
 BackIs strike s rest skip (Gone a k) =
     (a < rest) × (k ≤ skip + 1) × ((ns : List Name) → sift strike (front rest s) (mk skip ns) ≡ sift strike (front a s) (mk k ns))
 BackIs strike s rest skip (Keeps a) =
     (a < rest) × ((ns : List Name) → sift strike (front rest s) (mk skip ns) ≡ sift strike (front a s) (mk skip (part a (rest - 1) s ∷ ns)))
+    × (skip ≡ 0) × PieceIs s a (rest - 1)

@@ -62,10 +62,10 @@ pub fn raw_path(out: &mut [u8], path: &[u8]) -> Formed
     ensures { λ r. ⌜ Forms (body (names (now (path .entry)))) (now (out .entry)) (now (out .exit)) r ⌝ }
 {
     let p = measure(path, false, 0);
-    let len = p.len;
-    if 1024 < len {
+    let kept = p.len;
+    if 1024 < kept {
         return Formed::TooLong;
     }
-    put_kept(out, len, path, false, 0);
-    Formed::Text(len)
+    put_kept(out, kept, path, false, 0);
+    Formed::Text(kept)
 }

@@ -8,4 +8,5 @@ pub mod lengths;
 pub mod link;
 pub mod pieces;
 pub mod plain;
+pub mod runs;
 pub mod sifting;

@@ -1,9 +1,9 @@
 // The pieces of a path: what stands between its slashes.
 ghost use mathlib.Core.Path.{_≡_};
-ghost use mathlib.Core.List.{[], _∷_, _++_};
-ghost use Prim.Native.Nat.{_+_, _≤_};
+ghost use Prim.Native.Nat.{_≤_};
 ghost use lib.ListN.{length};
-ghost use Rattle.path.specs.Backward.{kindOf, front, part};
+ghost use Rattle.path.specs.Answer.{PieceIs};
+ghost use Rattle.path.specs.Backward.{kindOf};
 
 // 0: the piece vanishes, as the empty one and `.` do; 1: it is a `..` that drops a name; 2: it is a name.
 pub fn kind_of(n: &[u8], strike: bool) -> u8
@@ -34,7 +34,7 @@ pub fn kind_of(n: &[u8], strike: bool) -> u8
 // Where the piece that ends at e begins.
 pub fn piece_start(s: &[u8], e: usize) -> usize
     requires { ⌜ e ≤ length (now s) ⌝ }
-    ensures { λ r. ⌜ (r ≤ e) × (front (e + 1) (now (s .entry)) ≡ front r (now (s .entry)) ++ (part r e (now (s .entry)) ∷ [])) ⌝ }
+    ensures { λ r. ⌜ PieceIs (now (s .entry)) r e ⌝ }
 {
     let mut a = e;
     while a > 0 {

@@ -4,6 +4,7 @@ ghost use mathlib.Core.Bool.{true};
 ghost use Prim.Native.Nat.{_≤_};
 ghost use lib.ListN.{length, drop};
 ghost use Rattle.path.specs.Answer.{AllNames, PlainIs};
+use crate::runs::clean;
 
 // From: behind the slash in front, if there is one, every piece is a name. No: perhaps not.
 pub enum Plain {
@@ -11,8 +12,7 @@ pub enum Plain {
     No,
 }
 
-// Whether every piece of s[from..] is a name that does not begin with a dot. One test for each byte and the one before it,
-// and no way out of the loop, so that the compiler tests many at a time.
+// Whether every piece of s[from..] is a name that does not begin with a dot.
 fn all_names(s: &[u8], from: usize) -> bool
     requires { ⌜ from ≤ length (now s) ⌝ }
     ensures { λ r. ⌜ (r ≡ true → AllNames (drop from (now (s .entry)))) ⌝ }
@@ -26,15 +26,11 @@ fn all_names(s: &[u8], from: usize) -> bool
     if s[from] == 47 {
         return false;
     }
-    let mut bad = s[s.len() - 1] == 47;
-    let mut i = from + 1;
-    while i < s.len() {
-        let x = s[i - 1];
-        let y = s[i];
-        bad = bad | ((x == 47) & ((y == 47) | (y == 46)));
-        i += 1;
+    let last = s.len() - 1;
+    if s[last] == 47 {
+        return false;
     }
-    !bad
+    clean(s, from, last)
 }
 
 pub fn find_plain(s: &[u8]) -> Plain

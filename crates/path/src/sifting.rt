@@ -13,6 +13,7 @@ use crate::pieces::kind_of;
 use crate::pieces::piece_start;
 use crate::plain::Plain;
 use crate::plain::find_plain;
+use crate::runs::run_start;
 
 // One piece, read from the end of what is left.
 pub enum Back {
@@ -56,7 +57,8 @@ fn measure_back(s: &[u8], strike: bool, behind: usize) -> Kept
                 rest = a;
                 skip = k;
             }
-            Back::Keeps(a) => {
+            Back::Keeps(n) => {
+                let a = run_start(s, n);
                 len += rest - a;
                 rest = a;
             }
@@ -79,7 +81,8 @@ fn put_back(out: &mut [u8], end: usize, s: &[u8], strike: bool, behind: usize)
                 rest = a;
                 skip = k;
             }
-            Back::Keeps(a) => {
+            Back::Keeps(n) => {
+                let a = run_start(s, n);
                 at -= rest - a;
                 put_name(out, at, &s[a..rest - 1]);
                 rest = a;
@@ -88,11 +91,17 @@ fn put_back(out: &mut [u8], end: usize, s: &[u8], strike: bool, behind: usize)
     }
 }
 
-// The same as `measure_back`, at once where every piece is a name.
+// The same as `measure_back`, at once where there is no text or every piece is a name.
 pub fn measure(s: &[u8], strike: bool, behind: usize) -> Kept
     requires { ⌜ behind ≤ 9223372036854775808 ⌝ }
     ensures { λ r. ⌜ KeptIs strike (now (s .entry)) behind r ⌝ }
 {
+    if s.len() == 0 {
+        return Kept {
+            len: 0,
+            skip: behind,
+        };
+    }
     if behind == 0 {
         if let Plain::From(a) = find_plain(s) {
             return Kept {
@@ -104,11 +113,14 @@ pub fn measure(s: &[u8], strike: bool, behind: usize) -> Kept
     measure_back(s, strike, behind)
 }
 
-// The same as `put_back`, at once where every piece is a name.
+// The same as `put_back`, at once where there is no text or every piece is a name.
 pub fn put_kept(out: &mut [u8], end: usize, s: &[u8], strike: bool, behind: usize)
     requires { ⌜ (behind ≤ 9223372036854775808) × (end ≤ length (now out)) × (length (body (sifted strike behind (now s) .kept)) ≤ end) ⌝ }
     ensures { λ _. ⌜ now (out .exit) ≡ take (end - length (body (sifted strike behind (now (s .entry)) .kept))) (now (out .entry)) ++ (body (sifted strike behind (now (s .entry)) .kept) ++ drop end (now (out .entry))) ⌝ }
 {
+    if s.len() == 0 {
+        return;
+    }
     if behind == 0 {
         if let Plain::From(a) = find_plain(s) {
             let at = end - (s.len() - a + 1);

@@ -2,9 +2,8 @@
 use Prim.Native.Nat.{_≤_, _-_, zero-le}
 use mathlib.Core.Path.{_≡_}
 use native.Mathlib.Omega.{arith}
-use native.Mathlib.Numerals.{add-one}
 use Rattle.path.specs.Backward.{part}
-use Rattle.path.proofs.Cutting.{NoSlash, part-empty, part-step, at-slash, last-piece}
+use Rattle.path.proofs.Cutting.{NoSlash, part-empty, part-step, piece-is}
 use Rattle.path.proofs.pieces.piece_start.Statement.{statement}
 use Rattle.path.proofs.pieces.piece_start.Tie as tie
 
@@ -27,7 +26,7 @@ returns : tie.Need-returns Inv-loop μ-loop
 returns c = let f = c .before .before .before in
     let s = f .before .args .s .now in
     let e = f .before .args .e in
-    (f .loop .inv .0, rw add-one (last-piece s (f .loop .a) e (f .loop .inv .0) (f .before .pre) (f .loop .inv .1) (at-slash s (f .loop .a) (c .if1 .taken))))
+    piece-is s (f .loop .a) e (f .loop .inv .0) (f .before .pre) (f .loop .inv .1) (λ _. c .if1 .taken)
 
 sub-a : tie.Need-sub-a Inv-loop μ-loop
 sub-a c = omega arith
@@ -47,7 +46,7 @@ returns-2 c = let f = c .before in
     let e = f .before .args .e in
     let z : f .loop .a ≡ 0 = omega arith in
     let w : NoSlash (part 0 e s) = rw z at (f .loop .inv .1) in
-    (zero-le, rw add-one (last-piece s 0 e zero-le (f .before .pre) w (λ k q. absurd (omega arith))))
+    piece-is s 0 e zero-le (f .before .pre) w (λ q. absurd (omega arith))
 
 pub piece-start-spec : {M : Type 1} → statement M
 piece-start-spec =

@@ -35,7 +35,7 @@ stepped : (c : tie.After-piece-start Inv-loop μ-loop)
     → (0 < c .piece-start .result) × (take (c .piece-start .result - 1) (c .before .before .before .before .before .args .s .now) ≡ body (dropLast (c .before .before .before .loop .inv .0)))
 stepped c =
     let l = c .before .before .before .loop in
-    drop-step _ (l .h) (c .piece-start .result) (l .inv .0) (omega arith) (omega arith) (l .inv .1) (l .inv .3) (c .piece-start .ensures .1)
+    drop-step _ (l .h) (c .piece-start .result) (l .inv .0) (omega arith) (omega arith) (l .inv .1) (l .inv .3) (c .piece-start .ensures .last)
 
 sub-h : tie.Need-sub-h Inv-loop μ-loop
 sub-h c = stepped c .0

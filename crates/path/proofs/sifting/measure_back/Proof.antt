@@ -1,16 +1,18 @@
 -- `sifting::measure_back` meets its contract. The loop's invariant: what was read keeps names whose text is `len` long.
 use borrow.Author.Needs.{needs}
-use mathlib.Core.List.{List, [], _∷_}
+use mathlib.Core.List.{List, [], _++_}
 use mathlib.Core.Path.{_≡_, sym, ap, _∙_}
-use Prim.Native.Nat.{_+_, _-_, _≤_}
+use Prim.Native.Nat.{_+_, _-_, _≤_, _<_}
 use native.Mathlib.Omega.{arith}
 use lib.ListN.{length}
-use Rattle.path.specs.Path.{Name, body}
+use Rattle.path.specs.Path.{Name, pieces, body}
 use Rattle.path.specs.Backward.{Sifted, part}
 use Rattle.path.specs.Answer.{BackIs}
 use Rattle.path.specs.declared.sifting.Back.the-variants.{Gone, Keeps}
 use Rattle.path.proofs.Cutting.{part-length}
-use Rattle.path.proofs.Reading.{Read, read-none, read-all, read-gone, read-kept, told, body-none, body-cons-length}
+use Rattle.path.proofs.Dropping.{body-run-length}
+use Rattle.path.proofs.Reading.{Read, read-none, read-all, read-gone, told, body-none}
+use Rattle.path.proofs.Running.{read-run}
 use Rattle.path.proofs.sifting.measure_back.Statement.{statement}
 use Rattle.path.proofs.sifting.measure_back.Tie as tie
 
@@ -43,28 +45,35 @@ loop-again : tie.Need-loop-again Inv-loop μ-loop
 loop-again c = let l = c .before .before .before .before .before .loop in let w = l .inv in
     (w .0, read-gone _ _ _ (l .rest) (l .skip) _ (w .0) (w .1) _ (gone c), w .2, omega (arith, gone c .0))
 
-enum-known-a-2 : tie.Need-enum-known-a-2 Inv-loop μ-loop
-enum-known-a-2 c = search needs
+enum-known-n : tie.Need-enum-known-n Inv-loop μ-loop
+enum-known-n c = search needs
 
 kept : (c : tie.After-known-told2 Inv-loop μ-loop) → let a = c .before .before .before .before .before .before .before .args in let l = c .before .before .before .before .before .loop in
-    BackIs (a .strike) (a .s .now) (l .rest) (l .skip) (Keeps (c .before .a2 .given .0 .0))
-kept c = told _ _ _ _ (c .before .a2 .given .1) (c .before .before .before .read-back .ensures)
+    BackIs (a .strike) (a .s .now) (l .rest) (l .skip) (Keeps (c .before .n .given .0 .0))
+kept c = told _ _ _ _ (c .before .n .given .1) (c .before .before .before .read-back .ensures)
+
+run-start-requires : tie.Need-run-start-requires Inv-loop μ-loop
+run-start-requires c κs = (omega (arith, kept c .0, c .before .before .before .before .before .loop .inv .1 .room), kept c .3 .slash)
+
+-- the run begins before what was read
+less : (c : tie.After-run-start Inv-loop μ-loop) → c .run-start .result < c .before .before .before .before .before .before .loop .rest
+less c = omega (arith, kept (c .before) .0, c .run-start .ensures .0)
 
 sub-len : tie.Need-sub-len Inv-loop μ-loop
-sub-len c = omega (arith, kept c .0)
+sub-len c = omega (arith, less c)
 
 add-len : tie.Need-add-len Inv-loop μ-loop
-add-len c = omega (arith, kept c .0)
+add-len c = omega (arith, less c)
 
 loop-less-2 : tie.Need-loop-less-2 Inv-loop μ-loop
-loop-less-2 c = kept c .0
+loop-less-2 c = less c
 
 loop-again-2 : tie.Need-loop-again-2 Inv-loop μ-loop
-loop-again-2 c = let l = c .before .before .before .before .before .loop in let w = l .inv in let s = c .before .before .before .before .before .before .before .args .s .now in let a = c .before .a2 .given .0 .0 in (
-  part a (l .rest - 1) s ∷ w .0,
-  read-kept _ _ _ (l .rest) (l .skip) _ (w .0) (w .1) (kept c),
-  omega (arith, kept c .0, body-cons-length (part a (l .rest - 1) s) (w .0), part-length a (l .rest - 1) s (omega (arith, w .1 .room))),
-  omega (arith, kept c .0),
+loop-again-2 c = let l = c .before .before .before .before .before .before .loop in let w = l .inv in let s = c .before .before .before .before .before .before .before .before .args .s .now in let a = c .run-start .result in let t = part a (l .rest - 1) s in (
+  pieces t ++ w .0,
+  read-run _ s _ (l .rest) (l .skip) _ a (w .0) (w .1) (kept (c .before)) (c .run-start .ensures),
+  omega (arith, less c, body-run-length t (w .0), part-length a (l .rest - 1) s (omega (arith, w .1 .room))),
+  omega (arith, less c),
 )
 
 returns : tie.Need-returns Inv-loop μ-loop
@@ -91,7 +100,8 @@ measure-back-spec =
     enum-known-a
     loop-less
     loop-again
-    enum-known-a-2
+    enum-known-n
+    run-start-requires
     sub-len
     add-len
     loop-less-2

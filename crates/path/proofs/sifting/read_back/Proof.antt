@@ -35,7 +35,7 @@ named k strike n e z o = omega (arith, kind-small strike n)
 
 returns : tie.Need-returns
 returns c = let f = c .before .before .before .before .before in let p = c .before .before .before .piece-start in
-    back-gone (f .args .strike) (f .args .s .now) (f .args .rest) (p .result) (f .pre .0) (p .ensures .1) (f .args .skip) (p .ensures .0)
+    back-gone (f .args .strike) (f .args .s .now) (f .args .rest) (p .result) (f .pre .0) (p .ensures) (f .args .skip)
     (sym (c .before .kind-of .ensures) ∙ c .if1 .taken)
 
 add-t13 : tie.Need-add-t13
@@ -45,7 +45,7 @@ add-t13 c = let f = c .before .before .before .before .before .before in let p =
 
 returns-2 : tie.Need-returns-2
 returns-2 c = let f = c .before .before .before .before .before .before in let p = c .before .before .before .before .piece-start in
-    back-up (f .args .strike) (f .args .s .now) (f .args .rest) (p .result) (f .pre .0) (p .ensures .1) (f .args .skip) (p .ensures .0)
+    back-up (f .args .strike) (f .args .s .now) (f .args .rest) (p .result) (f .pre .0) (p .ensures) (f .args .skip)
     (sym (c .before .before .kind-of .ensures) ∙ c .if2 .taken)
 
 sub-t14 : tie.Need-sub-t14
@@ -53,12 +53,12 @@ sub-t14 c = search needs
 
 returns-3 : tie.Need-returns-3
 returns-3 c = let f = c .before .before .before .before .before .before .before in let p = c .before .before .before .before .before .piece-start in let k = c .before .before .before .kind-of in
-    back-dropped (f .args .strike) (f .args .s .now) (f .args .rest) (p .result) (f .pre .0) (p .ensures .1) (f .args .skip) (p .ensures .0)
+    back-dropped (f .args .strike) (f .args .s .now) (f .args .rest) (p .result) (f .pre .0) (p .ensures) (f .args .skip)
     (named (k .result) _ _ (k .ensures) (c .before .before .if1 .left) (c .before .if2 .left)) (c .if3 .taken)
 
 returns-4 : tie.Need-returns-4
 returns-4 c = let f = c .before .before .before .before .before .before .before in let p = c .before .before .before .before .before .piece-start in let k = c .before .before .before .kind-of in
-    back-kept (f .args .strike) (f .args .s .now) (f .args .rest) (p .result) (f .pre .0) (p .ensures .1) (f .args .skip) (p .ensures .0)
+    back-kept (f .args .strike) (f .args .s .now) (f .args .rest) (p .result) (f .pre .0) (p .ensures) (f .args .skip)
     (named (k .result) _ _ (k .ensures) (c .before .before .if1 .left) (c .before .if2 .left)) (omega arith)
 
 pub read-back-spec : {M : Type 1} → statement M

@@ -1,0 +1,138 @@
+-- The operations by file number, set umask, and what a removal does: their edits are allowed, since the numbers given fit and
+-- the positions stay within 64 bits.
+-- Assumes nothing.
+use mathlib.Core.Bool.{_||_, cond}
+use mathlib.Core.Option.{Option, none, some}
+use mathlib.Core.Path.{_≡_, refl, _∙_, subst}
+use Prim.Native.Nat.{ℕ, zero, suc, _+_, _-_, _≤_, _<_, _^_}
+use native.Mathlib.Nat.{mod-lt, min-le-right, lt-of-lt-of-le}
+use native.Mathlib.Omega.{arith}
+use lib.Dec.{leb, ltb, lit<, lit≤, ltb→lt}
+use lib.ListN.{length, length-take, length-drop}
+use Rattle.text.specs.Utf8.{Bytes}
+use Rattle.model.specs.Tree.{Path, Time, Open, fileOf, openOf, resize, chmod, touchSome}
+use Rattle.model.specs.Prog.{World, Kind, Position, bare?, open?, held?, onSome, answer, remove, close, seek, changeHeld, umask, _>>=_, _>>_}
+use Rattle.model.specs.Lookup.{textOr}
+use Rattle.model.specs.Operations.{setUmask, removeFile, removeDir, removeTree, closeNumber, readPart, readNumber, fromEnd, seekFrom, seekNumber, resized, setLength, setModeNumber, setTimesNumber, metadataNumber}
+use Rattle.model.specs.Passable.{Word, Long}
+use Rattle.model.proofs.Entries.{clash, some-inj}
+use Rattle.model.proofs.Sound.{Sound, GivenOk}
+use Rattle.model.proofs.SoundParts.{Fine, onlyFile-quiet, onlyDir-quiet, need-quiet}
+use Rattle.model.proofs.SoundOperations.{Small, bytes-long, metadataAt-fine}
+use Rattle.model.proofs.Meets.{gives, edited, Says, then, asks-says, need-says, must-says}
+
+-- ---- umask, removals
+
+-- the new umask fits
+pub setUmask-fine : (w : World) (old new : ℕ) → Word new → Fine (setUmask old new) w
+unfolding setUmask _>>_ _>>=_
+setUmask-fine w old new k = edited {e = umask new} k (gives tt)
+
+module _ (w : World) (p : Path) where
+  -- a removal asks nothing of the tree
+  pub removeFile-fine : (o : Option Kind) → Fine (removeFile p o) w
+  unfolding removeFile _>>_
+  removeFile-fine o = then (must-says o w) λ k _. then (onlyFile-quiet w k) λ _ _. edited {e = remove p} tt (gives tt)
+
+  -- nor does one of a directory
+  pub removeDir-fine : (o : Option Kind) → Fine (removeDir p o) w
+  unfolding removeDir _>>_
+  removeDir-fine o =
+      then (must-says o w) λ k _.
+      then (onlyDir-quiet w k) λ _ _.
+      then (asks-says (bare? p) w) λ n _.
+      then (need-quiet w n 12) λ _ _.
+      edited {e = remove p} tt (gives tt)
+
+  -- nor one of a tree
+  pub removeTree-fine : (o : Option Kind) → Fine (removeTree p o) w
+  unfolding removeTree _>>_
+  removeTree-fine none = gives tt
+  removeTree-fine (some k) = then (onlyDir-quiet w k) λ _ _. edited {e = remove p} tt (gives tt)
+
+-- ---- by file number
+
+-- what is read from a position ends within the file, or where it began
+read-to : (at size read most : ℕ) → at < most → size < most → read ≤ size - at → at + read < most
+read-to at size read most a b c = omega arith
+
+-- a seek from the end stays within 63 bits
+fromEnd-says : (w : World) (offset size : ℕ) → Says Long (fromEnd offset size) w
+unfolding fromEnd _>>_
+fromEnd-says w offset size =
+    then (need-quiet w (ltb offset (2 ^ 63) || leb (2 ^ 64) (size + offset)) 13) λ _ _.
+    then (need-says (ltb (cond (ltb offset (2 ^ 63)) (size + offset) (size + offset - 2 ^ 64)) (2 ^ 63)) 13 w) λ _ k.
+    gives (refl, lt-of-lt-of-le (ltb→lt (cond (ltb offset (2 ^ 63)) (size + offset) (size + offset - 2 ^ 64)) (2 ^ 63) k) (lit≤ tt))
+
+seekFrom-says : (w : World) (origin offset at size : ℕ) → Long offset → Says Long (seekFrom origin offset at size) w
+unfolding seekFrom
+seekFrom-says w zero offset at size k = gives (refl, k)
+seekFrom-says w (suc zero) offset at size k = gives (refl, mod-lt (at + offset) {m = 2 ^ 64} (lit< tt))
+seekFrom-says w (suc (suc n)) offset at size k = fromEnd-says w offset size
+
+module _ (w : World) (n : ℕ) where
+  -- a close asks nothing
+  pub closeNumber-fine : Fine (closeNumber n) w
+  unfolding closeNumber _>>_ _>>=_
+  closeNumber-fine = edited {e = close n} tt (gives tt)
+
+  -- a seek ends within 64 bits
+  pub seekNumber-fine : (origin offset : ℕ) → Long offset → Fine (seekNumber n origin offset) w
+  unfolding seekNumber _>>_ _>>=_
+  seekNumber-fine origin offset k =
+      then (asks-says (open? n) w) λ q _.
+      then (must-says q w) λ o _.
+      then (asks-says (held? n) w) λ d _.
+      then (seekFrom-says w origin offset (o .pos) (length (textOr d)) k) λ a l.
+      edited {e = seek n a} l (gives tt)
+
+  -- a new length changes no number
+  pub setLength-fine : (k : ℕ) → Fine (setLength n k) w
+  unfolding setLength _>>_ _>>=_
+  setLength-fine k = then (asks-says (held? n) w) λ d _. edited {e = changeHeld n (resize (resized k (textOr d)))} tt (gives tt)
+
+  -- the mode fits
+  pub setMode-fine : (mode : ℕ) → Word mode → Fine (setModeNumber n mode) w
+  unfolding setModeNumber _>>_ _>>=_
+  setMode-fine mode k = edited {e = changeHeld n (chmod mode)} k (gives tt)
+
+  -- each time that is given fits
+  pub setTimesNumber-fine : (a m : Option Time) → GivenOk a → GivenOk m → Fine (setTimesNumber n a m) w
+  unfolding setTimesNumber _>>_ _>>=_
+  setTimesNumber-fine a m k l = edited {e = changeHeld n (touchSome a m)} (k, l) (gives tt)
+
+  module _ (s : Sound w) where
+    -- the position of an open number fits 64 bits
+    open-long : (o : Position) → answer (open? n) w ≡ some o → Long (o .pos)
+    unfolding answer
+    open-long o e = go (openOf (w .opens) n) refl e
+      where
+        go : (q : Option Open) → openOf (w .opens) n ≡ q → onSome q (λ o. some (record { pos = o .pos; kept = o .kept })) ≡ some o → Long (o .pos)
+        go none y e = clash none o refl e
+        go (some u) y e = subst (λ (x : Position). Long (x .pos)) (some-inj e) (s .numbers .each n u y .place)
+
+    -- and so does the length of its file
+    held-long : Small (w .files) → Long (length (textOr (answer (held? n) w)))
+    unfolding answer
+    held-long m = go (openOf (w .opens) n)
+      where
+        go : (q : Option Open) → Long (length (textOr (onSome q (λ o. onSome (fileOf (w .files) (o .id)) (λ f. some (f .bytes))))))
+        go none = lit< tt
+        go (some u) = bytes-long (w .files) m (u .id)
+
+    -- a read ends within 64 bits
+    pub readNumber-fine : Small (w .files) → (lent : ℕ) → Fine (readNumber n lent) w
+    unfolding readNumber readPart _>>_ _>>=_
+    readNumber-fine m lent =
+        then (asks-says (open? n) w) λ q e.
+        then (must-says q w) λ o z.
+        then (asks-says (held? n) w) λ d y.
+        edited {e = seek n (o .pos + length (readPart o d lent))}
+        (read-to (o .pos) (length (textOr d)) (length (readPart o d lent)) (2 ^ 64) (open-long o (e ∙ z)) (subst (λ (x : Option Bytes). Long (length (textOr x))) y (held-long m))
+        (simp (length-take, length-drop) (min-le-right lent (length (textOr d) - o .pos))))
+        (gives tt)
+
+    -- metadata by number edits nothing
+    pub metadataNumber-fine : (b lent : ℕ) → Fine (metadataNumber b n lent) w
+    unfolding metadataNumber
+    metadataNumber-fine b lent = then (asks-says (open? n) w) λ q _. then (must-says q w) λ o _. metadataAt-fine w s b (o .kept) lent

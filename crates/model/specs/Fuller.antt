@@ -1,0 +1,166 @@
+-- "The fuller tree" (01): what two stores are to one another, and which calls demand 3 leaves out.
+-- Assumes nothing.
+use mathlib.Core.Bool.{Bool, true, false, _&&_, _||_, not}
+use mathlib.Core.List.{List, [], _∷_, _++_}
+use mathlib.Core.Logic.{_⊎_}
+use mathlib.Core.Option.{Option, none, some}
+use mathlib.Core.Path.{_≡_}
+use Prim.Native.Nat.{ℕ, zero, suc, _-_, _≤_}
+use lib.Dec.{eqb}
+use lib.ListN.{length, getD}
+use Rattle.text.specs.Utf8.{Bytes}
+use Rattle.path.specs.Path.{Name}
+use Rattle.model.specs.Tree.{Path, Meta, File, Node, dir, file, link, Entries, Files, Open, look, fileOf, openOf, links}
+use Rattle.model.specs.Prog.{World, Stat, Position, Ask, kind?, stat?, bytes?, target?, list?, bare?, open?, held?, answer, onSome, listing, Edit, make, create, symlink, change, remove, take, give, opens, close, seek, changeHeld, go, umask, apply, Prog, ret, stop, ask, edit}
+use Rattle.model.specs.Operations.{Reply, isSome}
+use Rattle.model.specs.Calls.{State, Call, entriesUsed, bytesUsed, isNamed, givenTo, screen, program, worldOf, Result, accepted, refusal, Outcome, perform}
+
+-- ---- what two states are to one another
+
+-- an entry as it is seen: "kind, metadata, bytes and target"
+pub data Shown : Type 0 where
+  shownDir : Meta → Shown
+  shownFile : Meta → Bytes → Shown
+  shownLink : Meta → Bytes → Shown
+
+unfoldable pub shownNode : Files → Node → Option Shown
+shownNode fs (dir m) = some (shownDir m)
+shownNode fs (file i) = onSome (fileOf fs i) (λ f. some (shownFile (f .meta) (f .bytes)))
+shownNode fs (link m s) = some (shownLink m s)
+
+unfoldable pub shown : State → Path → Option Shown
+shown s p = onSome (look (s .tree) p) (shownNode (s .files))
+
+-- "each entry of the first, the root too, stands there at the same path, alike in kind, metadata, bytes and target"
+abbrev pub HasEverything : State → State → Type 0
+HasEverything s u = (p : Path) (e : Shown) → shown s p ≡ some e → shown u p ≡ some e
+
+-- "Free space is limit less use, for entries and for bytes"
+abbrev pub freeEntries : State → ℕ
+freeEntries s = s .most - entriesUsed s
+
+abbrev pub freeBytes : State → ℕ
+freeBytes s = s .room - bytesUsed s
+
+-- position and kept path of a number, if it is open
+unfoldable pub positionOf : State → ℕ → Option Position
+positionOf s n = answer (open? n) (worldOf s)
+
+-- the number is open "on the file at" the path
+pub record StandsAt (s : State) (n : ℕ) (p : Path) : Type 0 where
+  pub held : Open
+  pub isOpen : openOf (s .opens) n ≡ some held
+  pub isThere : look (s .tree) p ≡ some (file (held .id))
+
+-- the number is open "on a removed one", with this file
+pub record StandsRemoved (s : State) (n : ℕ) (f : File) : Type 0 where
+  pub held : Open
+  pub isOpen : openOf (s .opens) n ≡ some held
+  pub noName : isNamed (s .tree) (held .id) ≡ false
+  pub isFile : fileOf (s .files) (held .id) ≡ some f
+
+-- two numbers are open on one file
+abbrev pub sameId : Option Open → Option Open → Bool
+sameId none o = false
+sameId (some a) none = false
+sameId (some a) (some b) = eqb (a .id) (b .id)
+
+unfoldable pub share : State → ℕ → ℕ → Bool
+share s n m = sameId (openOf (s .opens) n) (openOf (s .opens) m)
+
+-- "Two runs have the same open files exactly where each number is open in both or in neither, and an open one stands at the same
+-- position with the same path kept, on the file at one path, the kept one or another, in both trees, or in both on a removed one,
+-- alike in bytes and metadata, and the same numbers share one"
+pub record SameOpen (s u : State) : Type 0 where
+  pub position : (n : ℕ) → positionOf s n ≡ positionOf u n
+  pub onFile : (n : ℕ) (o : Open) → openOf (s .opens) n ≡ some o
+      → ((p : Path) × StandsAt s n p × StandsAt u n p) ⊎ ((f : File) × StandsRemoved s n f × StandsRemoved u n f)
+  pub sharing : (n m : ℕ) → share s n m ≡ share u n m
+
+-- "the same current directory, umask and open files, the second with everything in the first tree, perhaps more, and no less
+-- free space"
+pub record Fuller (s u : State) : Type 0 where
+  pub current : s .here ≡ u .here
+  pub umask : s .mask ≡ u .mask
+  pub opens : SameOpen s u
+  pub everything : HasEverything s u
+  pub entries : freeEntries s ≤ freeEntries u
+  pub bytes : freeBytes s ≤ freeBytes u
+
+-- ---- the calls that are left out
+
+-- "A call misses a name where it looks for it in a directory, or for the root, and the first run has none; the second has it
+-- there if its directory of that path then does"
+unfoldable pub misses : World → World → Path → Bool
+misses w v p = not (isSome (look (w .at) p)) && isSome (look (v .at) p)
+
+unfoldable pub lacksOne : World → Path → List (Name × Stat) → Bool
+lacksOne w p [] = false
+lacksOne w p (e ∷ l) = not (isSome (look (w .at) (p ++ (e .0 ∷ [])))) || lacksOne w p l
+
+-- "The second has more in a directory if it has a name there that the first lacks"
+unfoldable pub hasMore : World → World → Path → Bool
+hasMore w v p = lacksOne w p (listing v p)
+
+-- a question that misses a name, lists or tests for emptiness
+unfoldable pub exceptsAsk : Ask → World → World → Bool
+exceptsAsk (kind? p) w v = misses w v p
+exceptsAsk (stat? p) w v = misses w v p
+exceptsAsk (bytes? p) w v = misses w v p
+exceptsAsk (target? p) w v = misses w v p
+exceptsAsk (list? p) w v = hasMore w v p
+exceptsAsk (bare? p) w v = hasMore w v p
+exceptsAsk (open? n) w v = false
+exceptsAsk (held? n) w v = false
+
+-- an edit of an entry that is there looks for its name
+unfoldable pub exceptsEdit : Edit → World → World → Bool
+exceptsEdit (make p m) w v = false
+exceptsEdit (create p f) w v = false
+exceptsEdit (symlink p m s) w v = false
+exceptsEdit (change p c) w v = misses w v p
+exceptsEdit (remove p) w v = false
+exceptsEdit (take p) w v = misses w v p
+exceptsEdit (give p) w v = false
+exceptsEdit (opens n p k) w v = misses w v p
+exceptsEdit (close n) w v = false
+exceptsEdit (seek n k) w v = false
+exceptsEdit (changeHeld n c) w v = false
+exceptsEdit (go p) w v = false
+exceptsEdit (umask m) w v = false
+
+-- a program's questions and edits, as the first run goes, on both trees as they then are: whether one of them is left out
+unfoldable pub exceptsBy : (Ask → World → World → Bool) → (Edit → World → World → Bool) → {A : Type 0} → Prog A → World → World → Bool
+exceptsBy asks edits (ret a) w v = false
+exceptsBy asks edits (stop n) w v = false
+exceptsBy asks edits (ask q k) w v = asks q w v || exceptsBy asks edits (k (answer q w)) w v
+exceptsBy asks edits (edit e p) w v = edits e w v || exceptsBy asks edits p (apply e w) (apply e v)
+
+abbrev pub excepts : {A : Type 0} → Prog A → World → World → Bool
+excepts p w v = exceptsBy exceptsAsk exceptsEdit p w v
+
+-- "Refused for space is 15 or 16"
+unfoldable pub forSpace : Result → Bool
+forSpace (accepted r) = false
+forSpace (refusal n) = eqb n 15 || eqb n 16
+
+abbrev pub passes : ℕ → Bool → Bool
+passes zero b = b
+passes (suc n) b = false
+
+-- a call that is left out: what is refused before its program asks nothing. The bound on last links is the second tree's; the
+-- first run's is smaller, and a longer chain there asks nothing new.
+unfoldable pub excepted : Call → State → State → Bool
+excepted c s u =
+    passes (screen (givenTo c) (s .opens))
+    (excepts (program (links (u .tree)) (s .here) (s .mask) c) (worldOf s) (worldOf u) || forSpace (perform c s .result))
+
+-- no call of the list is left out
+unfoldable pub quiet : List Call → State → State → Bool
+quiet [] s u = true
+quiet (c ∷ j) s u = not (excepted c s u) && quiet j (perform c s .after) (perform c u .after)
+
+-- the result of the call after the calls of j
+unfoldable pub resultAfter : List Call → Call → State → Result
+resultAfter [] c s = perform c s .result
+resultAfter (d ∷ j) c s = resultAfter j c (perform d s .after)

@@ -1,0 +1,9 @@
+pub mod Tree
+pub mod Prog
+pub mod Lookup
+pub mod Seen
+pub mod Operations
+pub mod Calls
+pub mod Rules
+pub mod Fuller
+pub mod Passable
