@@ -1,20 +1,20 @@
 -- A question that is not left out is answered alike in both worlds.
 -- Assumes nothing.
-use mathlib.Core.Bool.{Bool, true, false, _&&_, _||_, not, false≢true}
+use mathlib.Core.Bool.{Bool, true, false, not, false≢true}
 use mathlib.Core.List.{List, [], _∷_, _++_}
 use mathlib.Core.Option.{Option, none, some}
-use mathlib.Core.Path.{_≡_, refl, sym, ap, _∙_, subst}
+use mathlib.Core.Path.{_≡_, refl, sym, ap, _∙_}
 use Prim.Native.Nat.{ℕ}
 use native.Mathlib.Omega.{arith}
 use Rattle.text.specs.Utf8.{Bytes}
 use Rattle.path.specs.Path.{Name}
-use Rattle.model.specs.Tree.{Path, File, Node, dir, file, link, Entries, Files, Open, look, fileOf, openOf, under, before, placeBy, place, inOrder}
+use Rattle.model.specs.Tree.{Path, File, Node, Entries, Files, Open, look, fileOf, openOf, under, before, placeBy, place, inOrder}
 use Rattle.model.specs.Prog.{World, Stat, Position, Ask, kind?, stat?, bytes?, target?, list?, bare?, open?, held?, answer, onSome, kindOf, statOf, bytesOf, targetOf, child, children, isNil, listing}
 use Rattle.model.specs.Operations.{isSome}
 use Rattle.model.specs.Fuller.{misses, lacksOne, hasMore, exceptsAsk}
-use Rattle.model.proofs.Entries.{clash, some-inj, name-dec, look-here, look-past, under-look, Apart, apart-under}
+use Rattle.model.proofs.Entries.{clash, name-dec, look-here, look-past, under-look, Apart, apart-under}
 use Rattle.model.proofs.Ordering.{named, named-here, named-past, Names, one-order}
-use Rattle.model.proofs.Over.{Paired, atPlace, Over, pair-number, lone-number}
+use Rattle.model.proofs.Over.{atPlace, Over, pair-number, lone-number}
 use Rattle.model.proofs.OverEdits.{Likes, dirs, files, links, likes, not-missed}
 use Rattle.model.proofs.Places.{inTree}
 use Rattle.model.proofs.TwoRuns.{or-false}
@@ -55,7 +55,8 @@ children-named fs ((p, n) ∷ t) a x = go p refl (statOf fs n) refl (children-na
         two none k (no d) =
             ih ∙ ap (λ (z : Option Node). onSome z (statOf fs)) (sym (look-past (p, n) t (x ∷ []) (λ z. d (cons-inj (sym e ∙ z)))))
 
-children-names : (fs : Files) (t : Entries) → Apart t → Names (children fs t)
+-- each name once
+pub children-names : (fs : Files) (t : Entries) → Apart t → Names (children fs t)
 unfolding children
 children-names fs [] a = tt
 children-names fs ((p, n) ∷ t) a = go p refl (statOf fs n) (children-names fs t (a .1))
@@ -90,7 +91,8 @@ place-named e (f ∷ l) n x = go (before (e .0) (f .0)) (place-named e l) n
             two (no y) (yes z) = named-past f (place e l) x y ∙ rest ∙ named-here e l x z ∙ sym (named-here e (f ∷ l) x z)
             two (no y) (no z) = named-past f (place e l) x y ∙ rest ∙ named-past e l x z ∙ sym (named-past e (f ∷ l) x z ∙ named-past f l x y)
 
-order-named : {A : Type 0} (l : List (Name × A)) → Names l → (x : Name) → named (inOrder l) x ≡ named l x
+-- what is put in order has the same under each name
+pub order-named : {A : Type 0} (l : List (Name × A)) → Names l → (x : Name) → named (inOrder l) x ≡ named l x
 unfolding inOrder
 order-named [] h x = refl
 order-named (e ∷ l) h x = place-named e (inOrder l) (order-named l (h .1) (e .0) ∙ h .0) x ∙ two (order-named l (h .1) x) (name-dec (e .0) x)

@@ -2,34 +2,24 @@
 -- lookup does, and no call makes a link before it looks up.
 -- Assumes nothing.
 use mathlib.Core.Bool.{Bool, true, false}
-use mathlib.Core.List.{List, [], _∷_, _++_}
+use mathlib.Core.List.{[], _∷_, _++_}
 use mathlib.Core.Option.{Option, none, some}
 use mathlib.Core.Path.{_≡_, refl, sym, ap, _∙_, subst}
 use Prim.Native.Nat.{ℕ, _≤_}
 use native.Mathlib.Omega.{arith}
 use lib.ListN.{length}
 use Rattle.text.specs.Utf8.{Bytes}
-use Rattle.path.specs.Path.{Name}
-use Rattle.model.specs.Tree.{Path, Time, Node, Entries, behind, outside, cut, links, samePath}
-use Rattle.model.specs.Prog.{World, Kind, aDir, aFile, aLink, kind?, stat?, bytes?, bare?, open?, take, apply, Prog, ret, stop, ask, edit, asks, edits, _>>=_, _>>_, need, Out, done, refused, run}
-use Rattle.model.specs.Lookup.{Where, following, lookup, textOr}
+use Rattle.model.specs.Tree.{Path, Time, links, samePath}
+use Rattle.model.specs.Prog.{World, Kind, aDir, aFile, aLink, bytes?, open?, take, apply, Prog, ret, asks, _>>=_, _>>_, need, Out, done, refused, run}
+use Rattle.model.specs.Lookup.{Where, lookup, textOr}
 use Rattle.model.specs.Operations
-use Rattle.model.specs.Operations.{Reply, Parted, Contents, toAbsolute, arrive, must, parted, isDirectory, onlyFile, onlyDir, directory, resolve, openWalk, contentsAt, writeTo, replaces, emptied, takeThenMake, renameApart, renameBy, metadataAt}
+use Rattle.model.specs.Operations.{Reply, Parted, toAbsolute, arrive, must, parted, isDirectory, onlyFile, directory, resolve, openWalk, contentsAt, writeTo, replaces, emptied, takeThenMake, renameApart, renameBy, metadataAt}
 use Rattle.model.specs.Calls
 use Rattle.model.specs.Calls.{Call, program}
-use Rattle.model.proofs.LinkCount.{linksOf, links-cons}
+use Rattle.model.proofs.LinkCount.{links-cut}
 use Rattle.model.proofs.Loops.{bounds}
 use Rattle.model.proofs.Rewalk.{lookup-leaves}
 use Rattle.model.proofs.Running.{then, run-bind, Pure, pure-bind, After, after-bind, pure-after}
-
-links-cut : (p : Path) (t : Entries) → links (cut p t) ≤ links t
-unfolding cut links
-links-cut p [] = omega arith
-links-cut p (e ∷ t) = go (behind p (e .0)) (links-cut p t)
-  where
-    go : (o : Option Path) → links (cut p t) ≤ links t → links (outside o e (cut p t)) ≤ links (e ∷ t)
-    go none ih = omega (arith, links-cons e (cut p t), links-cons e t)
-    go (some r) ih = omega (arith, links-cons e t)
 
 -- ---- parts that edit nothing
 

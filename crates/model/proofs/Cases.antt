@@ -5,8 +5,8 @@ use mathlib.Core.Path.{_≡_, refl}
 use Prim.Native.Nat.{ℕ}
 use lib.IntN.{pos}
 use Rattle.text.specs.Utf8.{Bytes}
-use Rattle.model.specs.Tree.{Path, Meta, File, Node, dir, file, link, Entries, Open}
-use Rattle.model.specs.Prog.{Stat, aDir, aFile, aLink}
+use Rattle.model.specs.Tree.{Meta, File, dir, file, link, Entries}
+use Rattle.model.specs.Prog.{Stat, aDir}
 use Rattle.model.specs.Operations.{Reply, plain}
 use Rattle.model.specs.Calls
 use Rattle.model.specs.Calls.{State, freshState, Call, Work, Result, accepted, refusal, outcome}

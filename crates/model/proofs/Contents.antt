@@ -1,7 +1,7 @@
 -- The bytes of files in two worlds: the second's are the first's and those of files that only the second has.
 -- Assumes nothing.
 use mathlib.Core.Bool.{Bool, true, false, _&&_, _||_, not, cond, false≢true}
-use mathlib.Core.List.{List, [], _∷_, _++_}
+use mathlib.Core.List.{List, [], _∷_}
 use mathlib.Core.Logic.{_⊎_, inl, inr}
 use mathlib.Core.Option.{Option, none, some}
 use mathlib.Core.Path.{_≡_, refl, sym, ap, _∙_, subst}
@@ -16,7 +16,7 @@ use Rattle.model.specs.Tree.{Path, File, Node, dir, file, link, Entries,
 use Rattle.model.specs.Calls.{isNamed, isHeld, kept}
 use Rattle.model.specs.Operations.{isSome}
 use Rattle.model.specs.Rules.{Once, newFile, newNumber}
-use Rattle.model.proofs.Entries.{clash, some-inj, is-true, is-false, of-true, look-here, look-past, path-equal, Apart}
+use Rattle.model.proofs.Entries.{clash, some-inj, is-true, of-true, look-here, look-past, path-equal, Apart}
 
 -- ---- a sum over some files
 

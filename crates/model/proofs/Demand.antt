@@ -2,33 +2,33 @@
 -- Assumes nothing.
 use mathlib.Core.Bool.{Bool, true, false, _&&_, _||_, not, false≢true}
 use mathlib.Core.List.{List, [], _∷_, _++_}
-use mathlib.Core.Logic.{_⊎_, inl, inr}
 use mathlib.Core.Option.{Option, none, some}
-use mathlib.Core.Path.{_≡_, refl, sym, ap, ap₂, _∙_, subst}
-use Prim.Native.Nat.{ℕ, zero, suc, _+_, _-_, _≤_}
+use mathlib.Core.Path.{_≡_, refl, sym, ap, ap₂, _∙_}
+use Prim.Native.Nat.{ℕ, zero, suc, _+_, _≤_}
 use native.Mathlib.Omega.{arith}
-use lib.Dec.{T, leb, eqb}
+use lib.Dec.{T, leb}
 use lib.ListN.{length}
 use borrow.Author.Tests.{leb-true, le-leb}
 use Rattle.path.proofs.Laws.{and-left, and-right}
-use Rattle.model.specs.Tree.{Path, File, Node, dir, file, link, Entries, Files, Open, look, fileOf, openOf, nameLength, targetLength, namesAndTargets, contents, links}
-use Rattle.model.specs.Prog.{World, Ask, Edit, make, create, symlink, change, remove, take, give, opens, close, seek, changeHeld, go, umask, answer, apply, changeAt, openAt, changeBy, Prog, Out, done, refused, run}
+use Rattle.model.specs.Tree.{Path, Node, dir, file, link, Open, look, openOf, nameLength, targetLength, namesAndTargets, contents, links}
+use Rattle.model.specs.Prog.{World, Edit, make, create, symlink, change, remove, take, give, opens, close, seek, changeHeld, go, umask, apply, changeAt, openAt, changeBy, Out, done, refused, run}
 use Rattle.model.specs.Operations.{Reply, isSome}
-use Rattle.model.specs.Calls.{State, Call, entriesUsed, bytesUsed, isNamed, isHeld, kept, Given, givenTo, Number, noNumber, free, opened, numberOk, all, firstOf, screen, program, worldOf, stateOf, Result, accepted, refusal, Outcome, outcome, settleBy, settle, decideBy, performWith, perform, afterJob}
+use Rattle.model.specs.Calls.{State, Call, entriesUsed, bytesUsed, kept, Given, givenTo, Number, noNumber, free, opened, numberOk, all, firstOf, screen, program, worldOf, stateOf, accepted, refusal, Outcome, settleBy, settle, decideBy, performWith, perform, afterJob}
 use Rattle.model.specs.Rules.{Obeys}
-use Rattle.model.specs.Fuller.{freeEntries, freeBytes, Fuller, exceptsAsk, exceptsEdit, excepts, forSpace, passes, excepted, quiet, resultAfter}
+use Rattle.model.specs.Fuller.{freeEntries, freeBytes, Fuller, exceptsAsk, excepts, forSpace, passes, excepted, quiet, resultAfter}
 use Rattle.model.proofs.Asking.{asked}
 use Rattle.model.proofs.Bounds.{any-bound}
 use Rattle.model.proofs.Contents.{weigh, weigh-le, kept-weigh, onlySecond, only-at, at-only}
-use Rattle.model.proofs.Entries.{clash, some-inj, is-true, look-none}
+use Rattle.model.proofs.Entries.{clash, look-none}
 use Rattle.model.proofs.Extras.{Extra, Shrinks, shrink-edit}
 use Rattle.model.proofs.Joining.{start-over, start-tidy}
-use Rattle.model.proofs.Keeping.{kept-kept, kept-all, dropped, over-dropped, tidy-dropped, swept, over-swept, tidy-swept}
+use Rattle.model.proofs.Keeping.{kept-kept, kept-all, dropped, over-dropped, tidy-dropped, over-swept, tidy-swept}
+use Rattle.model.proofs.Steady.{steady, by-questions}
 use Rattle.model.proofs.LinkCount.{linksOf, links-within}
-use Rattle.model.proofs.Over.{Over, SameNumber}
+use Rattle.model.proofs.Over.{Over, SameNumber, exceptsEdit}
 use Rattle.model.proofs.OverEdits.{Likes, dirs, files, links as linked, likes, over-edit}
-use Rattle.model.proofs.Parting.{live, contents-apart, everything, same-open}
-use Rattle.model.proofs.Places.{Place, inTree, inHand, seen}
+use Rattle.model.proofs.Parting.{contents-apart, everything, same-open}
+use Rattle.model.proofs.Places.{inTree, inHand}
 use Rattle.model.proofs.Spacing.{Top, weight, weight-edit, top-edit, hand-has, total-length, total-names, last-name, root-name, like-target}
 use Rattle.model.proofs.Tidy.{Tidy, tidy-edit}
 use Rattle.model.proofs.Totals.{total, total-has}
@@ -336,7 +336,8 @@ call-alike c s u j e = at (screen (givenTo c) (s .opens)) refl (screen-alike (gi
         in
         let p : program (links (u .tree)) (u .here) (u .mask) c ≡ program (links (u .tree)) (s .here) (s .mask) c = ap₂ (λ (h : Path) (m : ℕ). program (links (u .tree)) h m c) (sym (j .current)) (sym (j .umask)) in
         let t = two-runs (Running s u) exceptsAsk exceptsEdit (λ q w v r y. asked w v (r .over) (r .tidy .tree) (r .tidyToo .tree) q y) (λ d w v r y. running-edit s u d w v r y)
-        (program (links (u .tree)) (s .here) (s .mask) c) (worldOf s) (worldOf u) (running-start s u j) (o .0)
+        (program (links (u .tree)) (s .here) (s .mask) c) (worldOf s) (worldOf u) (running-start s u j)
+        (by-questions (program (links (u .tree)) (s .here) (s .mask) c) (worldOf s) (worldOf u) (steady c (links (u .tree)) s (more-links s u j)) ∙ o .0)
         in
         rw (← l, k, b, p) (settle-alike s u j (run (program (links (u .tree)) (s .here) (s .mask) c) (worldOf s)) (run (program (links (u .tree)) (s .here) (s .mask) c) (worldOf u)) t (rw b at (o .1)))
 

@@ -1,15 +1,13 @@
 -- Demand 3's exceptions, worked out: for each a pair of states and a call that it leaves out, which answers otherwise in the fuller
 -- one; and a job that goes on alike beside more content.
 -- Assumes nothing.
-use mathlib.Core.Bool.{Bool, true, false}
+use mathlib.Core.Bool.{true, false}
 use mathlib.Core.List.{List, [], _∷_, _++_}
 use mathlib.Core.Path.{_≡_, refl}
-use Prim.Native.Nat.{ℕ}
 use lib.IntN.{pos}
 use Rattle.text.specs.Utf8.{Bytes}
-use Rattle.model.specs.Tree.{Meta}
 use Rattle.model.specs.Prog.{Stat, aDir, aFile}
-use Rattle.model.specs.Operations.{Reply, plain}
+use Rattle.model.specs.Operations.{plain}
 use Rattle.model.specs.Calls
 use Rattle.model.specs.Calls.{State, freshState, Call, Work, Result, accepted, refusal}
 use Rattle.model.proofs.Computing.{bytes, left, answered, isQuiet}

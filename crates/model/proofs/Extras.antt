@@ -1,19 +1,16 @@
 -- The files that only the second world names: an edit of both makes none, and changes none.
 -- Assumes nothing.
-use mathlib.Core.Bool.{Bool, true, false}
-use mathlib.Core.List.{List, [], _∷_, _++_}
+use mathlib.Core.Bool.{false}
 use mathlib.Core.Logic.{_⊎_, inl, inr}
 use mathlib.Core.Option.{Option, none, some}
-use mathlib.Core.Path.{_≡_, refl, sym, ap, _∙_, subst}
+use mathlib.Core.Path.{_≡_, refl, sym, ap, _∙_}
 use Prim.Native.Nat.{ℕ}
-use native.Mathlib.Decide.{ℕ-discrete}
-use Rattle.model.specs.Tree.{Path, Meta, File, Node, dir, file, link, Files, Open, look, fileOf, openOf, put, cut, Change, changeMeta, setFile, newId}
-use Rattle.model.specs.Prog.{World, Edit, make, create, symlink, change, remove, take, give, opens, close, seek, changeHeld, go, umask, apply, withTree, withFiles, withOpens, changeAt, openAt, changeBy}
-use Rattle.model.specs.Fuller.{misses, exceptsEdit}
+use Rattle.model.specs.Tree.{Path, File, Node, dir, file, link, Files, Open, look, fileOf, openOf, put, cut, Change, changeMeta, setFile, newId}
+use Rattle.model.specs.Prog.{World, Edit, make, create, symlink, change, remove, take, give, opens, close, seek, changeHeld, go, umask, apply, withTree, withFiles, changeAt, openAt, changeBy}
 use Rattle.model.proofs.Entries.{clash}
-use Rattle.model.proofs.Places.{Place, inTree, inHand, seen, Origin, old, comes, Moved, putOrigin, put-moved, cutOrigin, cut-moved, takeOrigin, take-moved, giveOrigin, give-moved, stayOrigin, stay-moved}
-use Rattle.model.proofs.Over.{Paired, atPlace, HasFile, Over, pair-number, lone-number, NoNewFile, traced}
-use Rattle.model.proofs.OverEdits.{Likes, dirs, files, links, likes, not-missed, set-past, cons-past, not-new, put-no-new, cut-no-new, take-no-new, give-no-new, stay-no-new, dir-no-file, link-no-file, made, made-seen}
+use Rattle.model.proofs.Places.{Place, inTree, seen, Origin, comes, Moved, putOrigin, put-moved, cutOrigin, cut-moved, takeOrigin, take-moved, giveOrigin, give-moved}
+use Rattle.model.proofs.Over.{Paired, atPlace, Over, pair-number, lone-number, NoNewFile, traced, exceptsEdit}
+use Rattle.model.proofs.OverEdits.{Likes, dirs, files, links, likes, not-missed, set-past, cons-past, not-new, put-no-new, cut-no-new, take-no-new, give-no-new, dir-no-file, link-no-file, made, made-seen}
 
 -- a file that the second world names where the first has nothing
 abbrev pub Extra : World → World → ℕ → Type 0

@@ -1,23 +1,23 @@
 -- Two states as demand 3 has them are two worlds as the two runs keep them: a pair of files is one at a path of both trees, or a
 -- removed one under a number, and since a file has one name, pairs are one to one.
 -- Assumes nothing.
-use mathlib.Core.Bool.{Bool, true, false, _||_, false≢true}
-use mathlib.Core.List.{List, [], _∷_, _++_}
+use mathlib.Core.Bool.{false, false≢true}
+use mathlib.Core.List.{[]}
 use mathlib.Core.Logic.{_⊎_, inl, inr}
 use mathlib.Core.Option.{Option, none, some}
-use mathlib.Core.Path.{_≡_, refl, sym, ap, _∙_, subst}
-use Prim.Native.Nat.{ℕ, _≤_}
+use mathlib.Core.Path.{_≡_, refl, sym, ap, _∙_}
+use Prim.Native.Nat.{ℕ}
 use native.Mathlib.Omega.{arith}
-use lib.Dec.{T, eqb, eqb→eq, eqb-refl}
+use lib.Dec.{eqb}
 use borrow.Author.Tests.{eqb-true, eq-eqb}
 use Rattle.text.specs.Utf8.{Bytes}
 use Rattle.model.specs.Tree.{Path, Meta, File, Node, dir, file, link, Entries, Files, Open, look, fileOf, openOf}
-use Rattle.model.specs.Prog.{World, Position, open?, answer, onSome}
-use Rattle.model.specs.Calls.{State, entriesUsed, bytesUsed, isNamed, worldOf}
+use Rattle.model.specs.Prog.{Position, answer, onSome}
+use Rattle.model.specs.Calls.{State, isNamed, worldOf}
 use Rattle.model.specs.Rules.{Obeys, NodeOk}
-use Rattle.model.specs.Fuller.{Shown, shownDir, shownFile, shownLink, shownNode, shown, positionOf, StandsAt, StandsRemoved, sameId, share, SameOpen, Fuller, freeEntries, freeBytes}
+use Rattle.model.specs.Fuller.{Shown, shownDir, shownFile, shownLink, shownNode, shown, positionOf, StandsAt, StandsRemoved, sameId, share, Fuller}
 use Rattle.model.proofs.Contents.{at-named}
-use Rattle.model.proofs.Entries.{clash, some-inj, is-true, of-true, look-none}
+use Rattle.model.proofs.Entries.{clash, some-inj, is-true, look-none}
 use Rattle.model.proofs.Over.{erase, file-inj, Paired, atPlace, byNumber, SameNumber, HasFile, Over}
 use Rattle.model.proofs.Places.{Place, inTree, inHand, seen}
 use Rattle.model.proofs.Tidy.{Tidy}

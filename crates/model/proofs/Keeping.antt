@@ -1,20 +1,20 @@
 -- What a call leaves of two worlds: the hand dropped, and the files kept that have a name or a number.
 -- Assumes nothing.
 use mathlib.Core.Bool.{Bool, true, false, _||_, false≢true}
-use mathlib.Core.List.{List, [], _∷_, _++_}
+use mathlib.Core.List.{List, [], _∷_}
 use mathlib.Core.Option.{Option, none, some}
 use mathlib.Core.Path.{_≡_, refl, sym, ap, _∙_, subst}
 use Prim.Native.Nat.{ℕ}
 use native.Mathlib.Decide.{ℕ-discrete}
 use lib.Dec.{T, eqb}
-use borrow.Author.Tests.{eq-eqb, ne-eqb, eqb-true}
-use Rattle.model.specs.Tree.{Path, File, Node, file, Entries, Files, Open, orElse, keepIf, look, fileOf, openOf}
+use borrow.Author.Tests.{eq-eqb, ne-eqb}
+use Rattle.model.specs.Tree.{Path, File, file, Entries, Files, Open, orElse, keepIf, look, fileOf}
 use Rattle.model.specs.Prog.{World}
-use Rattle.model.specs.Calls.{State, isNamed, isHeld, kept, worldOf, stateOf}
+use Rattle.model.specs.Calls.{isNamed, isHeld, kept}
 use Rattle.model.specs.Rules.{Once, newFile}
 use Rattle.model.proofs.Contents.{or-left, or-right, at-named, by-held}
-use Rattle.model.proofs.Entries.{clash, some-inj, is-true, of-true}
-use Rattle.model.proofs.Over.{Paired, atPlace, byNumber, HasFile, Over, NoNewFile, over-moved}
+use Rattle.model.proofs.Entries.{clash, is-true}
+use Rattle.model.proofs.Over.{Paired, atPlace, byNumber, Over, NoNewFile, over-moved}
 use Rattle.model.proofs.Places.{Place, inTree, inHand, seen, dropOrigin, drop-moved}
 use Rattle.model.proofs.Tidy.{Tidy}
 use native.Mathlib.Omega.{arith}

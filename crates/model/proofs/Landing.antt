@@ -19,7 +19,8 @@ use Rattle.model.proofs.Entries.{clash}
 use Rattle.model.proofs.PureLookups.{bind-run, next, along, noFollow-is, reach, lookFrom, following-is}
 use Rattle.model.proofs.Beside.{Within, Beside, gone, stands, last, mid, follows}
 use Rattle.model.proofs.Counting.{NoMid, Goes, ends, leads, behind-run}
-use Rattle.model.proofs.Linked.{fits-front, next-same, next-snoc, Room, room-first, room-along, room-spent}
+use Rattle.model.proofs.SoundPaths.{fits-left}
+use Rattle.model.proofs.Linked.{next-same, next-snoc, Room, room-first, room-along, room-spent}
 
 -- ---- lookups, step by step
 
@@ -110,7 +111,7 @@ module _ (w v : World) (m : Met) (x : Name) (within : Within (v .at) (w .at)) (P
         → Lands v P (lookFrom k (suc b) r ls)
     unfolding reached
     lands-last j way e =
-        let t : T (pathFits (next v d [])) = fits-front (next v d []) (x ∷ []) (rw way at fits) in
+        let t : T (pathFits (next v d [])) = fits-left (next v d []) (x ∷ []) (rw way at fits) in
         lands-as (lookFrom k (suc b) r ls) (lookFrom mostLinks b (next v d []) (ls ++ (d ∷ [])))
         (bind-run (noFollow k r ls) (reach (suc b)) v v (noFollow-ends v k r ls (lastLink d) e tt)
         ∙ bind-run (behindLink d []) (λ p. following b p (ls ++ (d ∷ []))) v v (behind-run v d [] t)
@@ -121,7 +122,7 @@ module _ (w v : World) (m : Met) (x : Name) (within : Within (v .at) (w .at)) (P
     lands-mid : (g : List Name) → n ≤ k → q ≡ next v d g ++ (x ∷ []) → run (untilSymlink [] r) v ≡ done (midLink d g) v
         → Lands v P (lookFrom (suc k) b r ls)
     lands-mid g j way e =
-        let t : T (pathFits (next v d g)) = fits-front (next v d g) (x ∷ []) (rw way at fits) in
+        let t : T (pathFits (next v d g)) = fits-left (next v d g) (x ∷ []) (rw way at fits) in
         lands-as (lookFrom (suc k) b r ls) (lookFrom k b (next v d g) (ls ++ (d ∷ [])))
         (bind-same (noFollow (suc k) r ls) (noFollow k (next v d g) (ls ++ (d ∷ []))) (reach b) v (noFollow-leads v k r ls d g e t))
         (on (next v d g) k b (ls ++ (d ∷ [])) way j room)

@@ -1,3 +1,4 @@
+pub mod Asked
 pub mod Asking
 pub mod Beside
 pub mod Bounds
@@ -17,6 +18,7 @@ pub mod Landing
 pub mod Lands
 pub mod LinkCount
 pub mod Linked
+pub mod Listing
 pub mod Loops
 pub mod Meets
 pub mod Operating
@@ -45,6 +47,7 @@ pub mod SoundPaths
 pub mod SoundRename
 pub mod Spacing
 pub mod Standing
+pub mod Steady
 pub mod Tests
 pub mod Tidy
 pub mod Totals

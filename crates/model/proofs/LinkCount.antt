@@ -8,7 +8,7 @@ use mathlib.Core.Path.{_≡_, refl, ap}
 use Prim.Native.Nat.{ℕ, _+_, _≤_}
 use native.Mathlib.Omega.{arith}
 use lib.Dec.{T}
-use Rattle.model.specs.Tree.{Path, Node, dir, file, link, Entries, samePath, orElse, look, keepIf, less, links}
+use Rattle.model.specs.Tree.{Path, Node, dir, file, link, Entries, samePath, orElse, look, keepIf, less, behind, outside, cut, links}
 use Rattle.model.specs.Rules.{Once, newPath}
 use Rattle.model.proofs.Entries.{path-equal, path-refl, path-dec, look-here, look-past, less-past}
 
@@ -62,3 +62,13 @@ links-within (e ∷ t) u o h = omega (arith, links-cons e t, ap linksOf (look-he
         go : Dec (e .0 ≡ p) → linksOf (look t p) ≤ linksOf (look (less (e .0) u) p)
         go (yes k) = rw (← k, o .0) (omega arith)
         go (no k) = rw (less-past (e .0) p u k, ← look-past e t p k) (h p)
+
+-- without an entry and all below it a tree has no more links
+pub links-cut : (p : Path) (t : Entries) → links (cut p t) ≤ links t
+unfolding cut links
+links-cut p [] = omega arith
+links-cut p (e ∷ t) = go (behind p (e .0)) (links-cut p t)
+  where
+    go : (o : Option Path) → links (cut p t) ≤ links t → links (outside o e (cut p t)) ≤ links (e ∷ t)
+    go none ih = omega (arith, links-cons e (cut p t), links-cons e t)
+    go (some r) ih = omega (arith, links-cons e t)

@@ -1,20 +1,18 @@
 -- A listing is settled by what stands in the directory: names in byte order have one place each, so the order in which the
 -- entries are met does not matter.
 -- Assumes nothing.
-use mathlib.Core.Bool.{Bool, true, false, _&&_, _||_, not, false≢true}
-use mathlib.Core.List.{List, [], _∷_, _++_}
+use mathlib.Core.Bool.{Bool, true, false, not, false≢true}
+use mathlib.Core.List.{List, [], _∷_}
 use mathlib.Core.Option.{Option, none, some}
-use mathlib.Core.Path.{_≡_, refl, sym, ap, _∙_, subst}
+use mathlib.Core.Path.{_≡_, refl, sym, ap, _∙_}
 use Prim.Native.Nat.{ℕ, _<_}
-use native.Mathlib.Decide.{ℕ-discrete}
 use native.Mathlib.Omega.{arith}
-use lib.Dec.{ltb, eqb}
+use lib.Dec.{ltb}
 use borrow.Author.Tests.{lt-ltb, le-ltb, eq-eqb, ne-eqb, ltb-true, ltb-false}
 use Rattle.text.specs.Utf8.{Bytes}
 use Rattle.path.specs.Path.{Name}
-use Rattle.model.specs.Tree.{Path, Node, Entries, Files, orElse, keepIf, samePath, look, under, before, placeBy, place, inOrder}
-use Rattle.model.specs.Prog.{Stat, onSome, statOf, child, children}
-use Rattle.model.proofs.Entries.{clash, some-inj, name-dec, path-dec, look-here, look-past, Apart}
+use Rattle.model.specs.Tree.{before, placeBy, place, inOrder}
+use Rattle.model.proofs.Entries.{clash, some-inj, name-dec}
 
 -- ---- the order of names
 
@@ -44,7 +42,7 @@ unfolding before
 cons-equal a b s t h = rw (le-ltb a b (omega arith), eq-eqb a b h)
 
 -- of two different names one is before the other
-one-way : (x y : Bytes) → (x ≡ y → ⊥) → before x y ≡ not (before y x)
+pub one-way : (x y : Bytes) → (x ≡ y → ⊥) → before x y ≡ not (before y x)
 unfolding before
 one-way [] [] n = absurd (n refl)
 one-way [] (b ∷ t) n = refl

@@ -2,16 +2,17 @@
 -- one and a file of the other are a pair where they stand at one place or under one number, and pairs are one to one, alike, and
 -- named by the first wherever they are by the second. No number of a file is ever compared with another world's.
 -- Assumes nothing.
-use mathlib.Core.Bool.{Bool, true, false}
-use mathlib.Core.List.{List, [], _∷_, _++_}
+use mathlib.Core.Bool.{Bool, false}
+use mathlib.Core.List.{List}
 use mathlib.Core.Option.{Option, none, some}
 use mathlib.Core.Path.{_≡_, refl, sym, ap, _∙_, subst}
 use Prim.Native.Nat.{ℕ}
 use native.Mathlib.Omega.{arith}
-use Rattle.model.specs.Tree.{Path, File, Node, dir, file, link, Entries, Files, Open, fileOf, openOf}
-use Rattle.model.specs.Prog.{World}
+use Rattle.model.specs.Tree.{File, Node, dir, file, link, Files, Open, fileOf, openOf}
+use Rattle.model.specs.Prog.{World, Edit, make, create, symlink, change, remove, take, give, opens, close, seek, changeHeld, go, umask}
+use Rattle.model.specs.Fuller.{misses}
 use Rattle.model.proofs.Entries.{clash, some-inj}
-use Rattle.model.proofs.Places.{Place, seen, seenIn, Origin, old, new, gone, comes, Moved}
+use Rattle.model.proofs.Places.{Place, seen, Origin, old, new, gone, comes, Moved}
 
 -- a node without the number of its file
 unfoldable pub erase : Node → Node
@@ -144,3 +145,21 @@ module _ (w v w′ v′ : World) (o : Place → Origin) (mw : Moved o (w .at) (w
             let g = r .grounded (t .0) j (t .2) in
             (g .0, ap (λ (fs : Files). fileOf fs j) fv ∙ g .1);
       }
+
+-- ---- edits
+
+-- an edit of an entry that is there looks for its name
+unfoldable pub exceptsEdit : Edit → World → World → Bool
+exceptsEdit (make p m) w v = false
+exceptsEdit (create p f) w v = false
+exceptsEdit (symlink p m s) w v = false
+exceptsEdit (change p c) w v = misses w v p
+exceptsEdit (remove p) w v = false
+exceptsEdit (take p) w v = misses w v p
+exceptsEdit (give p) w v = false
+exceptsEdit (opens n p k) w v = misses w v p
+exceptsEdit (close n) w v = false
+exceptsEdit (seek n k) w v = false
+exceptsEdit (changeHeld n c) w v = false
+exceptsEdit (go p) w v = false
+exceptsEdit (umask m) w v = false

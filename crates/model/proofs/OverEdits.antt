@@ -1,23 +1,22 @@
 -- Every edit keeps two worlds as they are to one another.
 -- Assumes nothing.
 use mathlib.Core.Bool.{Bool, true, false, cond, not, false≢true}
-use mathlib.Core.List.{List, [], _∷_, _++_}
+use mathlib.Core.List.{List, [], _∷_}
 use mathlib.Core.Logic.{_⊎_, inl, inr, ⊎-elim}
 use mathlib.Core.Option.{Option, none, some}
-use mathlib.Core.Path.{_≡_, refl, sym, ap, ap₂, _∙_, subst}
-use Prim.Native.Nat.{ℕ, suc, _≤_, _<_, max}
+use mathlib.Core.Path.{_≡_, refl, sym, ap, _∙_, subst}
+use Prim.Native.Nat.{ℕ, suc, _<_, max}
 use native.Mathlib.Decide.{ℕ-discrete}
 use native.Mathlib.Omega.{arith}
 use lib.Dec.{eqb}
-use borrow.Author.Tests.{eqb-true, eqb-false, eq-eqb, ne-eqb}
+use borrow.Author.Tests.{eqb-true, eq-eqb, ne-eqb}
 use Rattle.text.specs.Utf8.{Bytes}
-use Rattle.model.specs.Tree.{Path, Meta, File, Node, dir, file, link, Entries, Files, Open, orElse, keepIf, samePath, look, behind, fileOf, openOf, put, cut, under, graft, Change, changeMeta, changeFile, setFile, newId}
+use Rattle.model.specs.Tree.{Path, Meta, File, Node, dir, file, link, Files, Open, orElse, keepIf, samePath, look, behind, fileOf, openOf, put, cut, Change, changeMeta, changeFile, setFile, newId}
 use Rattle.model.specs.Prog.{World, Edit, make, create, symlink, change, remove, take, give, opens, close, seek, changeHeld, go, umask, apply, withTree, withFiles, withOpens, changeAt, openAt, closeNum, moveBy, seekNum, changeBy}
-use Rattle.model.specs.Operations.{isSome}
-use Rattle.model.specs.Fuller.{misses, exceptsEdit}
-use Rattle.model.proofs.Entries.{clash, some-inj, is-true, of-true, path-dec, path-equal, path-yes, path-no, put-here, put-past}
-use Rattle.model.proofs.Places.{Place, inTree, inHand, seen, seenIn, Origin, old, new, gone, comes, Moved, pickOrigin, byBehind, putOrigin, put-moved, cutOrigin, cut-moved, takeOrigin, take-moved, giveOrigin, give-moved, stayOrigin, stay-moved}
-use Rattle.model.proofs.Over.{erase, file-inj, like-file, Paired, atPlace, byNumber, SameNumber, HasFile, Over, pair-at, pair-number, lone-number, NoNewFile, over-moved}
+use Rattle.model.specs.Fuller.{misses}
+use Rattle.model.proofs.Entries.{clash, some-inj, path-dec, put-here, put-past}
+use Rattle.model.proofs.Places.{Place, inTree, inHand, seen, old, new, gone, pickOrigin, byBehind, putOrigin, put-moved, cutOrigin, cut-moved, takeOrigin, take-moved, giveOrigin, give-moved, stayOrigin, stay-moved}
+use Rattle.model.proofs.Over.{erase, file-inj, Paired, atPlace, byNumber, SameNumber, HasFile, Over, pair-number, lone-number, NoNewFile, over-moved, exceptsEdit}
 
 -- ---- the table of files
 

@@ -2,23 +2,23 @@
 -- the files that only the second has.
 -- Assumes nothing.
 use mathlib.Core.Bool.{Bool, true, false, _&&_, _||_, not, false≢true}
-use mathlib.Core.List.{List, [], _∷_, _++_}
+use mathlib.Core.List.{[], _∷_}
 use mathlib.Core.Logic.{_⊎_, inl, inr}
 use mathlib.Core.Option.{Option, none, some}
 use mathlib.Core.Path.{_≡_, refl, sym, ap, _∙_, subst}
 use Prim.Native.Nat.{ℕ, _+_, _≤_}
 use native.Mathlib.Omega.{arith}
-use lib.Dec.{T, eqb, T-not, not-T, eqb→eq}
+use lib.Dec.{T, eqb, T-not, not-T}
 use borrow.Author.Tests.{eq-eqb, ne-eqb, eqb-true}
 use Rattle.path.proofs.Laws.{and-left, and-right, and-both}
-use Rattle.model.specs.Tree.{Path, Meta, File, Node, dir, file, link, Entries, Files, Open, look, fileOf, openOf}
-use Rattle.model.specs.Prog.{World, Position, open?, answer, onSome}
+use Rattle.model.specs.Tree.{Path, File, Node, file, Files, Open, look, openOf}
+use Rattle.model.specs.Prog.{World, open?, onSome}
 use Rattle.model.specs.Calls.{State, isNamed, isHeld, worldOf}
-use Rattle.model.specs.Fuller.{Shown, shownDir, shownFile, shownLink, shownNode, shown, HasEverything, positionOf, StandsAt, StandsRemoved, sameId, share, SameOpen, Fuller}
+use Rattle.model.specs.Fuller.{shownFile, shownNode, shown, HasEverything, positionOf, StandsAt, StandsRemoved, sameId, share, SameOpen, Fuller}
 use Rattle.model.proofs.Asking.{asked}
-use Rattle.model.proofs.Contents.{weigh, Matched, weigh-le, weigh-split, or-elim, or-left, or-right, named-at, at-named, held-by, by-held, onlySecond, only-at, at-only}
+use Rattle.model.proofs.Contents.{weigh, weigh-le, weigh-split, or-elim, or-left, or-right, named-at, at-named, held-by, by-held, onlySecond, only-at, at-only}
 use Rattle.model.proofs.Entries.{clash, some-inj, is-true, is-false, of-true}
-use Rattle.model.proofs.Over.{erase, file-inj, like-file, Paired, atPlace, byNumber, Over, pair-at, pair-number, lone-number}
+use Rattle.model.proofs.Over.{erase, like-file, Paired, atPlace, byNumber, Over, pair-at, pair-number, lone-number}
 use Rattle.model.proofs.OverEdits.{Likes, dirs, files, links, likes}
 use Rattle.model.proofs.Places.{inTree}
 use Rattle.model.proofs.Tidy.{Tidy}

@@ -2,13 +2,12 @@
 -- does not depend on the tree. So a law about two trees is shown once for all edits.
 -- Assumes nothing.
 use mathlib.Core.Bool.{Bool, true, false}
-use mathlib.Core.List.{List, [], _∷_, _++_}
+use mathlib.Core.List.{[], _++_}
 use mathlib.Core.Option.{Option, none, some}
 use mathlib.Core.Path.{_≡_, refl, sym, ap, _∙_}
-use Prim.Native.Nat.{ℕ}
-use Rattle.model.specs.Tree.{Path, Node, dir, file, link, Entries, samePath, look, behind, put, cut, under, graft}
+use Rattle.model.specs.Tree.{Path, Node, Entries, samePath, look, behind, put, cut, under, graft}
 use Rattle.model.specs.Prog.{World}
-use Rattle.model.proofs.Entries.{path-dec, path-yes, path-no, path-equal, of-true, look-none, put-here, put-past, cut-in, cut-out, under-look, give-in, give-out}
+use Rattle.model.proofs.Entries.{path-yes, path-equal, of-true, look-none, put-here, put-past, cut-in, cut-out, under-look, give-in, give-out}
 
 pub data Place : Type 0 where
   inTree : Path → Place

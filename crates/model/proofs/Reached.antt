@@ -46,7 +46,7 @@ fresh-obeys most room a b c d = record {
   named = λ p n e. clash none n refl e;
   nodes = λ p n e. clash none n refl e;
   files = tt;
-  fileMetas = λ i f e. clash none f refl e;
+  eachFile = λ i f e. clash none f refl e;
   oneName = λ p q i e _. clash none (file i) refl e;
   used = λ i f e. clash none f refl e;
   numbers = tt;
@@ -130,7 +130,7 @@ module _ (b : ℕ) (w : World) (s : Sound w) (m : Small (w .files)) where
       openFile-fine w s b m (flagsOf f) (cond (bit f 16) k (w .mask)) t n g
       (mode-of (bit f 16) k (w .mask) (p .3) (s .umask)) (p .4) (c .number .0) (c .number .1) (c .texts .0)
   program-fine (Calls.readCall v g k) p c = readFile-fine w s b g k (c .texts .0)
-  program-fine (Calls.writeCall v g d t) p c = writeFile-fine w s b t (p .1) g d (c .texts .0)
+  program-fine (Calls.writeCall v g d t) p c = writeFile-fine w s b t (p .2) g d (p .1) (c .texts .0)
   program-fine (Calls.copyCall v g d t) p c = copyFile-fine w s b t (p .1) g d (c .texts .0) (c .texts .1 .0)
   program-fine (Calls.hardLinkCall v g d t) p c = hardLink-fine w s b t (p .1) g d (c .texts .0) (c .texts .1 .0)
   program-fine (Calls.linkCall v g d t) p c = linkFile-fine w s b g d t (c .texts .0) (c .texts .1 .0) (p .1)
@@ -147,7 +147,7 @@ module _ (b : ℕ) (w : World) (s : Sound w) (m : Small (w .files)) where
   program-fine (Calls.closeCall n) p c = closeNumber-fine w n
   program-fine (Calls.readNumberCall n k) p c = readNumber-fine w n s m k
   program-fine (Calls.seekCall n o k) p c = seekNumber-fine w n o k (p .2)
-  program-fine (Calls.setLengthCall n k) p c = setLength-fine w n k
+  program-fine (Calls.setLengthCall n k) p c = setLength-fine w n s k
   program-fine (Calls.setModeCall n k) p c = setMode-fine w n k (p .1)
   program-fine (Calls.setTimesNumberCall n f a t) p c =
       setTimesNumber-fine w n (timeIf (bit f 1) a) (timeIf (bit f 2) t) (given-if (bit f 1) a (p .2)) (given-if (bit f 2) t (p .3))

@@ -18,7 +18,7 @@ use Rattle.model.proofs.Entries.{clash, behind-self, behind-is, cut-in,
 use Rattle.model.proofs.PureLookups.{no-answer, same-answer, bind-run, pure-need}
 use Rattle.model.proofs.Beside.{Within}
 use Rattle.model.proofs.Counting.{following-first}
-use Rattle.model.proofs.Linked.{links-cut}
+use Rattle.model.proofs.LinkCount.{links-cut}
 use Rattle.model.proofs.Landing.{Lands, parent-lands}
 use Rattle.model.proofs.Passing.{Parents, Reaches, lookup-reaches}
 use Rattle.model.proofs.Edited.{isRefused, late, NeverStops, never-ret, never-edits, never-bind, never-refused, refused-then, accepted-never-late, late-bind}

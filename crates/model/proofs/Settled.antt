@@ -4,18 +4,20 @@
 use mathlib.Core.Bool.{Bool, true, false, _||_}
 use mathlib.Core.List.{List, [], _∷_}
 use mathlib.Core.Option.{Option, none, some}
-use mathlib.Core.Path.{_≡_, refl, sym, ap, _∙_, subst}
+use mathlib.Core.Path.{_≡_, refl, sym, ap, _∙_}
 use Prim.Native.Nat.{ℕ, _+_, _≤_, _<_}
 use native.Mathlib.Nat.{lt-of-lt-of-le}
 use native.Mathlib.Omega.{arith}
-use lib.Dec.{T, eqb, leb, eqb→eq, eqb-refl, leb→le, lit≤}
+use lib.Dec.{T, eqb, leb, eqb→eq, leb→le, lit≤}
 use lib.ListN.{length}
-use Rattle.model.specs.Tree.{Path, File, Node, dir, file, link, Entries, Files, Open, orElse, keepIf, look, fileOf, openOf, samePath, contents}
+use Rattle.model.specs.Tree.{Path, File, Node, dir, file, link, Entries, Files, Open, orElse, keepIf, look, fileOf, contents}
 use Rattle.model.specs.Prog.{World, Out, done, refused}
 use Rattle.model.specs.Operations.{Reply}
 use Rattle.model.specs.Calls.{State, entriesUsed, bytesUsed, isNamed, isHeld, kept, worldOf, stateOf, settleBy, settle}
-use Rattle.model.specs.Rules.{NodeOk, Once, newFile, Obeys}
+use Rattle.model.specs.Rules.{NodeOk, Obeys}
 use Rattle.model.proofs.Entries.{is-true, of-true, clash, some-inj, look-none}
+use Rattle.model.proofs.Contents.{or-left, or-right, at-named, by-held}
+use Rattle.model.proofs.Keeping.{kept-once}
 use Rattle.model.proofs.Running.{After}
 use Rattle.model.proofs.Sound.{HasFile, Sound}
 use Rattle.model.proofs.SoundEntries.{tidy-none}
@@ -27,40 +29,10 @@ use Rattle.model.proofs.SoundOperations.{Small}
 abbrev Wanted : Entries → List Open → ℕ → Bool
 Wanted t os i = isNamed t i || isHeld os i
 
-or-left : (a b : Bool) → T a → T (a || b)
-or-left true b h = tt
-or-left false b h = absurd h
-
-or-right : (a b : Bool) → T b → T (a || b)
-or-right true b h = tt
-or-right false b h = h
-
 -- the file, if it is kept
 abbrev ifSo : Bool → Option File → Option File
 ifSo true o = o
 ifSo false o = none
-
-look-named : (t : Entries) (p : Path) (i : ℕ) → look t p ≡ some (file i) → T (isNamed t i)
-unfolding look isNamed
-look-named [] p i e = clash none (file i) refl e
-look-named ((q, n) ∷ t) p i e = go n (samePath q p) e (look-named t p i)
-  where
-    go : (n : Node) (b : Bool) → orElse b n (look t p) ≡ some (file i) → (look t p ≡ some (file i) → T (isNamed t i)) → T (isNamed ((q, n) ∷ t) i)
-    go (dir m) true e ih = absurd (let z : _≡_ {A = ℕ} 0 1 = cc in omega arith)
-    go (dir m) false e ih = ih e
-    go (file j) true e ih = let z : j ≡ i = cc in or-left (eqb j i) (isNamed t i) (subst (λ (k : ℕ). T (eqb j k)) z (eqb-refl j))
-    go (file j) false e ih = or-right (eqb j i) (isNamed t i) (ih e)
-    go (link m s) true e ih = absurd (let z : _≡_ {A = ℕ} 0 1 = cc in omega arith)
-    go (link m s) false e ih = ih e
-
-open-held : (os : List Open) (n : ℕ) (o : Open) → openOf os n ≡ some o → T (isHeld os (o .id))
-unfolding openOf isHeld
-open-held [] n o e = clash none o refl e
-open-held (u ∷ os) n o e = go (eqb (u .num) n) e (open-held os n o)
-  where
-    go : (b : Bool) → orElse b u (openOf os n) ≡ some o → (openOf os n ≡ some o → T (isHeld os (o .id))) → T (eqb (u .id) (o .id) || isHeld os (o .id))
-    go true e ih = or-left (eqb (u .id) (o .id)) (isHeld os (o .id)) (subst (λ (k : Open). T (eqb (u .id) (k .id))) (some-inj e) (eqb-refl (u .id)))
-    go false e ih = or-right (eqb (u .id) (o .id)) (isHeld os (o .id)) (ih e)
 
 module _ (t : Entries) (os : List Open) where
   kept-file : (fs : Files) (i : ℕ) → fileOf (kept t os fs) i ≡ ifSo (Wanted t os i) (fileOf fs i)
@@ -93,22 +65,6 @@ module _ (t : Entries) (os : List Open) where
   kept-has : (fs : Files) (i : ℕ) → T (Wanted t os i) → HasFile fs i → HasFile (kept t os fs) i
   kept-has fs i h (f, e) = (f, kept-file fs i ∙ ap (λ (c : Bool). ifSo c (fileOf fs i)) (is-true (Wanted t os i) h) ∙ e)
 
-  kept-once : (fs : Files) → Once newFile fs → Once newFile (kept t os fs)
-  unfolding kept
-  kept-once [] h = tt
-  kept-once (f ∷ fs) h = go (Wanted t os (f .0)) (kept-once fs (h .1))
-    where
-      new : fileOf (kept t os fs) (f .0) ≡ none
-      new = kept-file fs (f .0) ∙ ap (ifSo (Wanted t os (f .0))) (h .0) ∙ off (Wanted t os (f .0))
-        where
-          off : (b : Bool) → ifSo b none ≡ none
-          off true = refl
-          off false = refl
-
-      go : (a : Bool) → Once newFile (kept t os fs) → Once newFile (keepIf a f (kept t os fs))
-      go true ih = (new, ih)
-      go false ih = ih
-
 -- ---- between states and worlds
 
 -- the world of a state that obeys the rules
@@ -118,7 +74,7 @@ world-sound s o = record {
   inHand = tidy-none (s .files);
   root = o .root;
   apart = λ p q i _ e. clash (look [] q) (file i) (look-none q) e;
-  table = record { once = o .files; metas = o .fileMetas };
+  table = record { once = o .files; each = o .eachFile };
   numbers = record { once = o .numbers; each = λ n u e. let h = o .opens n u e in record { small = h .0; place = h .1; path = h .2; stands = h .3 } };
   current = o .current;
   umask = o .umask;
@@ -137,20 +93,20 @@ state-obeys s w o u e b = record {
   named = u .tree .named;
   nodes = λ p n h. node p n h (u .tree .nodes p n h);
   files = kept-once (w .at) (w .opens) (w .files) (u .table .once);
-  fileMetas = λ i f h. u .table .metas i f (kept-some (w .at) (w .opens) (w .files) i f h .1);
+  eachFile = λ i f h. u .table .each i f (kept-some (w .at) (w .opens) (w .files) i f h .1);
   oneName = u .tree .oneName;
   used = λ i f h. kept-some (w .at) (w .opens) (w .files) i f h .0;
   numbers = u .numbers .once;
   opens = λ n k h.
       let v = u .numbers .each n k h in
-      (v .small, v .place, v .path, kept-has (w .at) (w .opens) (w .files) (k .id) (or-right (isNamed (w .at) (k .id)) (isHeld (w .opens) (k .id)) (open-held (w .opens) n k h)) (v .stands));
+      (v .small, v .place, v .path, kept-has (w .at) (w .opens) (w .files) (k .id) (or-right (isNamed (w .at) (k .id)) (isHeld (w .opens) (k .id)) (by-held (w .opens) n k h)) (v .stands));
   current = u .current;
   umask = u .umask;
 }
   where
     node : (p : Path) (n : Node) → look (w .at) p ≡ some n → NodeOk (w .files) n → NodeOk (kept (w .at) (w .opens) (w .files)) n
     node p (dir m) h k = k
-    node p (file i) h k = kept-has (w .at) (w .opens) (w .files) i (or-left (isNamed (w .at) i) (isHeld (w .opens) i) (look-named (w .at) p i h)) k
+    node p (file i) h k = kept-has (w .at) (w .opens) (w .files) i (or-left (isNamed (w .at) i) (isHeld (w .opens) i) (at-named (w .at) p i h)) k
     node p (link m g) h k = k
 
 -- what a program leaves that ends in a sound world, and what a refused one leaves

@@ -9,7 +9,7 @@ use lib.Dec.{T}
 use Rattle.path.specs.Path.{Name}
 use Rattle.model.specs.Tree.{Path, Time, Meta, File, Node, dir, file, Entries, Files, Open, look, fileOf, openOf, Change, write, resize, chmod, touch, touchSome}
 use Rattle.model.specs.Prog.{World, Kind, kindOf, onSome, Edit, make, create, symlink, change, remove, take, give, opens, close, seek, changeHeld, go, umask}
-use Rattle.model.specs.Rules.{namesOk, pathOk, targetOk, metaOk, NodeOk, Once, newPath, newFile, newNumber}
+use Rattle.model.specs.Rules.{namesOk, pathOk, targetOk, metaOk, bytesOk, FileOk, NodeOk, Once, newPath, newFile, newNumber}
 use Rattle.model.specs.Passable.{Word, Long, Clock}
 
 -- a directory stands at the path
@@ -42,7 +42,7 @@ pub record OpenOk (fs : Files) (n : ℕ) (o : Open) : Type 0 where
 -- the table of files
 pub record FilesOk (fs : Files) : Type 0 where
   pub once : Once newFile fs
-  pub metas : (i : ℕ) (f : File) → fileOf fs i ≡ some f → T (metaOk (f .meta))
+  pub each : (i : ℕ) (f : File) → fileOf fs i ≡ some f → FileOk f
 
 -- the open numbers
 pub record OpensOk (fs : Files) (os : List Open) : Type 0 where
@@ -83,10 +83,10 @@ abbrev pub GivenOk : Option Time → Type 0
 GivenOk none = Unit {0}
 GivenOk (some t) = Clock t
 
--- the numbers of a change fit
+-- the numbers and bytes of a change fit
 abbrev pub ChangeOk : Change → Type 0
-ChangeOk (write b t) = Clock t
-ChangeOk (resize b) = Unit {0}
+ChangeOk (write b t) = T (bytesOk b) × Clock t
+ChangeOk (resize b) = T (bytesOk b)
 ChangeOk (chmod k) = Word k
 ChangeOk (touch a t) = Clock a × Clock t
 ChangeOk (touchSome a t) = GivenOk a × GivenOk t
@@ -94,7 +94,7 @@ ChangeOk (touchSome a t) = GivenOk a × GivenOk t
 -- what an edit asks of the world that it is made on
 abbrev pub Allowed : Edit → World → Type 0
 Allowed (make p m) w = T (namesOk p) × T (metaOk m) × Housed p (w .at)
-Allowed (create p f) w = Vacant p (w .at) × T (metaOk (f .meta))
+Allowed (create p f) w = Vacant p (w .at) × FileOk f
 Allowed (symlink p m s) w = Vacant p (w .at) × T (metaOk m) × T (targetOk s)
 Allowed (change p c) w = ChangeOk c
 Allowed (remove p) w = Unit {0}

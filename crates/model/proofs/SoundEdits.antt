@@ -93,7 +93,7 @@ module _ (w : World) (s : Sound w) where
   sound-open n p k a (some (dir m)) e = s
   sound-open n p k a (some (file i)) e =
       reopen ((record { num = n; id = i; pos = k; kept = p }) ∷ closeNum n (w .opens))
-      (opens-more (w .files) (closeNum n (w .opens)) (record { num = n; id = i; pos = k; kept = p }) (close-none (w .files) n (w .opens) n (a .0))
+      (opens-more (w .files) (closeNum n (w .opens)) (record { num = n; id = i; pos = k; kept = p }) (close-none n (w .opens) n (a .0))
       (record { small = a .1; place = a .2; path = a .3; stands = s .tree .nodes p (file i) e }) (opens-less (w .files) n (w .opens) (s .numbers)))
   sound-open n p k a (some (link m g)) e = s
 

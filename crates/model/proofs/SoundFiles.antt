@@ -10,9 +10,10 @@ use native.Mathlib.Nat.{le-max-left, le-max-right}
 use native.Mathlib.Omega.{arith}
 use lib.Dec.{T, eqb, ltb, eqb→eq, eqb-refl, ltb→lt, lt→ltb}
 use borrow.Author.Tests.{ne-eqb}
-use Rattle.model.specs.Tree.{Time, Meta, File, Node, dir, file, link, Entries, Files, Open, orElse, keepIf, fileOf, openOf, Change, write, resize, chmod, touch, touchSome, given, changeMeta, changeFile, setFile, newId}
+use Rattle.text.specs.Utf8.{Bytes}
+use Rattle.model.specs.Tree.{Time, Meta, File, Node, dir, file, link, Entries, Files, Open, orElse, keepIf, fileOf, openOf, Change, write, resize, chmod, touch, touchSome, given, changeMeta, changeBytes, changeFile, setFile, newId}
 use Rattle.model.specs.Prog.{onSome, closeNum, moveBy, seekNum}
-use Rattle.model.specs.Rules.{timeOk, metaOk, NodeOk, Once, newFile, newNumber}
+use Rattle.model.specs.Rules.{timeOk, metaOk, bytesOk, FileOk, NodeOk, Once, newFile, newNumber}
 use Rattle.model.specs.Passable.{Word, Long, Clock}
 use Rattle.model.proofs.Entries.{is-true, of-true, clash, some-inj}
 use Rattle.model.proofs.Sound.{HasFile, Tidy, OpenOk, FilesOk, OpensOk, GivenOk, ChangeOk}
@@ -69,12 +70,21 @@ meta-changed c m k h = meta-whole (changeMeta c m) (go c k)
     or (some u) t a b = a
 
     go : (c : Change) → ChangeOk c → MetaFits (changeMeta c m)
-    go (write b t) k = record { mode = f .mode; accessed = f .accessed; changed = f .changed; created = f .created; modified = k }
+    go (write b t) k = record { mode = f .mode; accessed = f .accessed; changed = f .changed; created = f .created; modified = k .1 }
     go (resize b) k = f
     go (chmod n) k = record { mode = k; accessed = f .accessed; changed = f .changed; created = f .created; modified = f .modified }
     go (touch a t) k = record { mode = f .mode; accessed = k .0; changed = k .0; created = k .0; modified = k .1 }
     go (touchSome a t) k =
         record { mode = f .mode; accessed = or a (m .accessed) (k .0) (f .accessed); changed = f .changed; created = f .created; modified = or t (m .modified) (k .1) (f .modified) }
+
+-- the bytes after such a change
+bytes-changed : (c : Change) (d : Bytes) → ChangeOk c → T (bytesOk d) → T (bytesOk (changeBytes c d))
+unfolding changeBytes
+bytes-changed (write b t) d k h = k .0
+bytes-changed (resize b) d k h = k
+bytes-changed (chmod n) d k h = h
+bytes-changed (touch a t) d k h = h
+bytes-changed (touchSome a t) d k h = h
 
 -- ---- the table of files
 
@@ -126,24 +136,21 @@ set-file i c (f ∷ fs) j = go (eqb (f .0) j) (set-file i c fs j)
 pub set-covers : (i : ℕ) (c : Change) (fs : Files) → Covers fs (setFile i c fs)
 set-covers i c fs j (f, e) = let s = set-file i c fs j in (changeIf c (s .0) f, s .1 ∙ ap (altered (changeIf c (s .0))) e)
 
-set-once : (i : ℕ) (c : Change) (fs : Files) → Once newFile fs → Once newFile (setFile i c fs)
+pub set-once : (i : ℕ) (c : Change) (fs : Files) → Once newFile fs → Once newFile (setFile i c fs)
 unfolding setFile
 set-once i c [] h = tt
 set-once i c (f ∷ fs) h = let s = set-file i c fs (f .0) in (s .1 ∙ ap (altered (changeIf c (s .0))) (h .0), set-once i c fs (h .1))
 
 -- and keeps its rules
 pub set-ok : (i : ℕ) (c : Change) (fs : Files) → ChangeOk c → FilesOk fs → FilesOk (setFile i c fs)
-set-ok i c fs k s = record { once = set-once i c fs (s .once); metas = λ j. go j (set-file i c fs j) }
+set-ok i c fs k s = record { once = set-once i c fs (s .once); each = λ j. go j (set-file i c fs j) }
   where
-    Good : File → Type 0
-    Good f = T (metaOk (f .meta))
-
-    pick : (b : Bool) (f : File) → Good f → Good (changeIf c b f)
-    pick true f h = meta-changed c (f .meta) k h
+    pick : (b : Bool) (f : File) → FileOk f → FileOk (changeIf c b f)
+    pick true f h = (meta-changed c (f .meta) k (h .0), bytes-changed c (f .bytes) k (h .1))
     pick false f h = h
 
-    go : (j : ℕ) → (b : Bool) × (fileOf (setFile i c fs) j ≡ altered (changeIf c b) (fileOf fs j)) → (f : File) → fileOf (setFile i c fs) j ≡ some f → Good f
-    go j r = altered-each Good (changeIf c (r .0)) (fileOf fs j) (fileOf (setFile i c fs) j) (r .1) (λ f e. pick (r .0) f (s .metas j f e))
+    go : (j : ℕ) → (b : Bool) × (fileOf (setFile i c fs) j ≡ altered (changeIf c b) (fileOf fs j)) → (f : File) → fileOf (setFile i c fs) j ≡ some f → FileOk f
+    go j r = altered-each FileOk (changeIf c (r .0)) (fileOf fs j) (fileOf (setFile i c fs) j) (r .1) (λ f e. pick (r .0) f (s .each j f e))
 
 -- no file has a number from the new one on
 new-none : (fs : Files) (n : ℕ) → newId fs ≤ n → fileOf fs n ≡ none
@@ -164,13 +171,13 @@ module _ (i : ℕ) (f : File) (fs : Files) (n : fileOf fs i ≡ none) where
   more-covers j (g, e) = (g, rw (ne-eqb i j (λ k. clash (fileOf fs j) g (subst (λ (x : ℕ). fileOf fs x ≡ none) k n) e)) e)
 
   -- its rules
-  pub more-ok : T (metaOk (f .meta)) → FilesOk fs → FilesOk ((i, f) ∷ fs)
+  pub more-ok : FileOk f → FilesOk fs → FilesOk ((i, f) ∷ fs)
   unfolding fileOf
-  more-ok m s = record { once = (n, s .once); metas = λ j g. go j g (eqb i j) }
+  more-ok m s = record { once = (n, s .once); each = λ j g. go j g (eqb i j) }
     where
-      go : (j : ℕ) (g : File) (b : Bool) → orElse b f (fileOf fs j) ≡ some g → T (metaOk (g .meta))
-      go j g true e = subst (λ (x : File). T (metaOk (x .meta))) (some-inj e) m
-      go j g false e = s .metas j g e
+      go : (j : ℕ) (g : File) (b : Bool) → orElse b f (fileOf fs j) ≡ some g → FileOk g
+      go j g true e = subst FileOk (some-inj e) m
+      go j g false e = s .each j g e
 
   -- where the new number has its file
   pub more-has : HasFile ((i, f) ∷ fs) i
@@ -184,6 +191,59 @@ seek-num : (b : Bool) (k : ℕ) (o : Open) → moveBy b k o .num ≡ o .num
 seek-num true k o = refl
 seek-num false k o = refl
 
+-- what is not open stays so
+pub close-none : (n : ℕ) (os : List Open) (m : ℕ) → openOf os m ≡ none → openOf (closeNum n os) m ≡ none
+unfolding closeNum openOf
+close-none n [] m h = refl
+close-none n (o ∷ os) m h = go (eqb (o .num) n) (eqb (o .num) m) refl h (close-none n os m)
+  where
+    go : (a b : Bool) → eqb (o .num) m ≡ b → orElse b o (openOf os m) ≡ none → (openOf os m ≡ none → openOf (closeNum n os) m ≡ none)
+        → openOf (keepIf (not a) o (closeNum n os)) m ≡ none
+    go a true y e ih = clash (some o) o e refl
+    go true false y e ih = ih e
+    go false false y e ih = rw y (ih e)
+
+close-some : (n : ℕ) (os : List Open) (m : ℕ) (u : Open) → Once newNumber os → openOf (closeNum n os) m ≡ some u → openOf os m ≡ some u
+unfolding closeNum openOf
+close-some n [] m u a h = h
+close-some n (o ∷ os) m u a h = go (eqb (o .num) n) (eqb (o .num) m) refl h (close-some n os m u (a .1))
+  where
+    go : (x b : Bool) → eqb (o .num) m ≡ b → openOf (keepIf (not x) o (closeNum n os)) m ≡ some u → (openOf (closeNum n os) m ≡ some u → openOf os m ≡ some u)
+        → orElse b o (openOf os m) ≡ some u
+    go true true y e ih = clash (openOf os m) u (subst (λ (k : ℕ). openOf os k ≡ none) (eqb→eq (o .num) m (of-true y)) (a .0)) (ih e)
+    go false true y e ih = rw y at e
+    go true false y e ih = ih e
+    go false false y e ih = ih (rw y at e)
+
+pub close-once : (n : ℕ) (os : List Open) → Once newNumber os → Once newNumber (closeNum n os)
+unfolding closeNum
+close-once n [] h = tt
+close-once n (o ∷ os) h = go (eqb (o .num) n) (close-once n os (h .1))
+  where
+    go : (a : Bool) → Once newNumber (closeNum n os) → Once newNumber (keepIf (not a) o (closeNum n os))
+    go true ih = ih
+    go false ih = (close-none n os (o .num) (h .0), ih)
+
+-- an open number of a list with one moved
+seek-open : (n k : ℕ) (os : List Open) (m : ℕ) → (b : Bool) × (openOf (seekNum n k os) m ≡ altered (moveBy b k) (openOf os m))
+unfolding seekNum openOf
+seek-open n k [] m = (true, refl)
+seek-open n k (o ∷ os) m =
+    let g = go (eqb (o .num) m) (seek-open n k os m) in
+    (g .0, ap (λ (x : ℕ). orElse (eqb x m) (moveBy (eqb (o .num) n) k o) (openOf (seekNum n k os) m)) (seek-num (eqb (o .num) n) k o) ∙ g .1)
+  where
+    go : (t : Bool) → (b : Bool) × (openOf (seekNum n k os) m ≡ altered (moveBy b k) (openOf os m))
+        → (b : Bool) × (orElse t (moveBy (eqb (o .num) n) k o) (openOf (seekNum n k os) m) ≡ altered (moveBy b k) (orElse t o (openOf os m)))
+    go true r = (eqb (o .num) n, refl)
+    go false r = r
+
+pub seek-once : (n k : ℕ) (os : List Open) → Once newNumber os → Once newNumber (seekNum n k os)
+unfolding seekNum
+seek-once n k [] h = tt
+seek-once n k (o ∷ os) h =
+    let s = seek-open n k os (o .num) in
+    (rw (seek-num (eqb (o .num) n) k o) (s .1 ∙ ap (altered (moveBy (s .0) k)) (h .0)), seek-once n k os (h .1))
+
 module _ (fs : Files) where
   -- a number more
   pub opens-more : (os : List Open) (o : Open) → openOf os (o .num) ≡ none → OpenOk fs (o .num) o → OpensOk fs os → OpensOk fs (o ∷ os)
@@ -194,62 +254,9 @@ module _ (fs : Files) where
       go m u true y e = subst (λ (x : ℕ). OpenOk fs x u) (eqb→eq (o .num) m (of-true y)) (subst (OpenOk fs (o .num)) (some-inj e) k)
       go m u false y e = s .each m u e
 
-  -- what is not open stays so
-  pub close-none : (n : ℕ) (os : List Open) (m : ℕ) → openOf os m ≡ none → openOf (closeNum n os) m ≡ none
-  unfolding closeNum openOf
-  close-none n [] m h = refl
-  close-none n (o ∷ os) m h = go (eqb (o .num) n) (eqb (o .num) m) refl h (close-none n os m)
-    where
-      go : (a b : Bool) → eqb (o .num) m ≡ b → orElse b o (openOf os m) ≡ none → (openOf os m ≡ none → openOf (closeNum n os) m ≡ none)
-          → openOf (keepIf (not a) o (closeNum n os)) m ≡ none
-      go a true y e ih = clash (some o) o e refl
-      go true false y e ih = ih e
-      go false false y e ih = rw y (ih e)
-
-  close-some : (n : ℕ) (os : List Open) (m : ℕ) (u : Open) → Once newNumber os → openOf (closeNum n os) m ≡ some u → openOf os m ≡ some u
-  unfolding closeNum openOf
-  close-some n [] m u a h = h
-  close-some n (o ∷ os) m u a h = go (eqb (o .num) n) (eqb (o .num) m) refl h (close-some n os m u (a .1))
-    where
-      go : (x b : Bool) → eqb (o .num) m ≡ b → openOf (keepIf (not x) o (closeNum n os)) m ≡ some u → (openOf (closeNum n os) m ≡ some u → openOf os m ≡ some u)
-          → orElse b o (openOf os m) ≡ some u
-      go true true y e ih = clash (openOf os m) u (subst (λ (k : ℕ). openOf os k ≡ none) (eqb→eq (o .num) m (of-true y)) (a .0)) (ih e)
-      go false true y e ih = rw y at e
-      go true false y e ih = ih e
-      go false false y e ih = ih (rw y at e)
-
-  close-once : (n : ℕ) (os : List Open) → Once newNumber os → Once newNumber (closeNum n os)
-  unfolding closeNum
-  close-once n [] h = tt
-  close-once n (o ∷ os) h = go (eqb (o .num) n) (close-once n os (h .1))
-    where
-      go : (a : Bool) → Once newNumber (closeNum n os) → Once newNumber (keepIf (not a) o (closeNum n os))
-      go true ih = ih
-      go false ih = (close-none n os (o .num) (h .0), ih)
-
   -- a number less
   pub opens-less : (n : ℕ) (os : List Open) → OpensOk fs os → OpensOk fs (closeNum n os)
   opens-less n os s = record { once = close-once n os (s .once); each = λ m u h. s .each m u (close-some n os m u (s .once) h) }
-
-  -- an open number of a list with one moved
-  seek-open : (n k : ℕ) (os : List Open) (m : ℕ) → (b : Bool) × (openOf (seekNum n k os) m ≡ altered (moveBy b k) (openOf os m))
-  unfolding seekNum openOf
-  seek-open n k [] m = (true, refl)
-  seek-open n k (o ∷ os) m =
-      let g = go (eqb (o .num) m) (seek-open n k os m) in
-      (g .0, ap (λ (x : ℕ). orElse (eqb x m) (moveBy (eqb (o .num) n) k o) (openOf (seekNum n k os) m)) (seek-num (eqb (o .num) n) k o) ∙ g .1)
-    where
-      go : (t : Bool) → (b : Bool) × (openOf (seekNum n k os) m ≡ altered (moveBy b k) (openOf os m))
-          → (b : Bool) × (orElse t (moveBy (eqb (o .num) n) k o) (openOf (seekNum n k os) m) ≡ altered (moveBy b k) (orElse t o (openOf os m)))
-      go true r = (eqb (o .num) n, refl)
-      go false r = r
-
-  seek-once : (n k : ℕ) (os : List Open) → Once newNumber os → Once newNumber (seekNum n k os)
-  unfolding seekNum
-  seek-once n k [] h = tt
-  seek-once n k (o ∷ os) h =
-      let s = seek-open n k os (o .num) in
-      (rw (seek-num (eqb (o .num) n) k o) (s .1 ∙ ap (altered (moveBy (s .0) k)) (h .0)), seek-once n k os (h .1))
 
   -- a number at another position
   pub opens-moved : (n k : ℕ) (os : List Open) → Long k → OpensOk fs os → OpensOk fs (seekNum n k os)

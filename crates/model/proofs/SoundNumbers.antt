@@ -2,23 +2,26 @@
 -- the positions stay within 64 bits.
 -- Assumes nothing.
 use mathlib.Core.Bool.{_||_, cond}
+use mathlib.Core.List.{[], _∷_, _++_}
 use mathlib.Core.Option.{Option, none, some}
 use mathlib.Core.Path.{_≡_, refl, _∙_, subst}
 use Prim.Native.Nat.{ℕ, zero, suc, _+_, _-_, _≤_, _<_, _^_}
 use native.Mathlib.Nat.{mod-lt, min-le-right, lt-of-lt-of-le}
 use native.Mathlib.Omega.{arith}
-use lib.Dec.{leb, ltb, lit<, lit≤, ltb→lt}
-use lib.ListN.{length, length-take, length-drop}
+use lib.Dec.{T, leb, ltb, lit<, lit≤, ltb→lt}
+use lib.ListN.{length, take, replicate, length-take, length-drop}
 use Rattle.text.specs.Utf8.{Bytes}
+use Rattle.path.proofs.Laws.{and-left, and-right, and-both}
 use Rattle.model.specs.Tree.{Path, Time, Open, fileOf, openOf, resize, chmod, touchSome}
 use Rattle.model.specs.Prog.{World, Kind, Position, bare?, open?, held?, onSome, answer, remove, close, seek, changeHeld, umask, _>>=_, _>>_}
 use Rattle.model.specs.Lookup.{textOr}
 use Rattle.model.specs.Operations.{setUmask, removeFile, removeDir, removeTree, closeNumber, readPart, readNumber, fromEnd, seekFrom, seekNumber, resized, setLength, setModeNumber, setTimesNumber, metadataNumber}
+use Rattle.model.specs.Rules.{bytesOk}
 use Rattle.model.specs.Passable.{Word, Long}
 use Rattle.model.proofs.Entries.{clash, some-inj}
 use Rattle.model.proofs.Sound.{Sound, GivenOk}
 use Rattle.model.proofs.SoundParts.{Fine, onlyFile-quiet, onlyDir-quiet, need-quiet}
-use Rattle.model.proofs.SoundOperations.{Small, bytes-long, metadataAt-fine}
+use Rattle.model.proofs.SoundOperations.{Small, bytes-long, file-bytes, metadataAt-fine}
 use Rattle.model.proofs.Meets.{gives, edited, Says, then, asks-says, need-says, must-says}
 
 -- ---- umask, removals
@@ -49,6 +52,28 @@ module _ (w : World) (p : Path) where
   unfolding removeTree _>>_
   removeTree-fine none = gives tt
   removeTree-fine (some k) = then (onlyDir-quiet w k) λ _ _. edited {e = remove p} tt (gives tt)
+
+-- ---- bytes cut or filled up with zeros
+
+prefix-bytes : (k : ℕ) (d : Bytes) → T (bytesOk d) → T (bytesOk (take k d))
+unfolding bytesOk
+prefix-bytes zero d h = tt
+prefix-bytes (suc k) [] h = tt
+prefix-bytes (suc k) (b ∷ d) h = and-both (ltb b 256) (bytesOk (take k d)) (and-left (ltb b 256) (bytesOk d) h) (prefix-bytes k d (and-right (ltb b 256) (bytesOk d) h))
+
+joined-bytes : (d e : Bytes) → T (bytesOk d) → T (bytesOk e) → T (bytesOk (d ++ e))
+unfolding bytesOk
+joined-bytes [] e h k = k
+joined-bytes (b ∷ d) e h k = and-both (ltb b 256) (bytesOk (d ++ e)) (and-left (ltb b 256) (bytesOk d) h) (joined-bytes d e (and-right (ltb b 256) (bytesOk d) h) k)
+
+zero-bytes : (k : ℕ) → T (bytesOk (replicate k 0))
+unfolding bytesOk
+zero-bytes zero = tt
+zero-bytes (suc k) = zero-bytes k
+
+resized-bytes : (k : ℕ) (d : Bytes) → T (bytesOk d) → T (bytesOk (resized k d))
+unfolding resized
+resized-bytes k d h = joined-bytes (take k d) (replicate (k - length d) 0) (prefix-bytes k d h) (zero-bytes (k - length d))
 
 -- ---- by file number
 
@@ -86,11 +111,6 @@ module _ (w : World) (n : ℕ) where
       then (seekFrom-says w origin offset (o .pos) (length (textOr d)) k) λ a l.
       edited {e = seek n a} l (gives tt)
 
-  -- a new length changes no number
-  pub setLength-fine : (k : ℕ) → Fine (setLength n k) w
-  unfolding setLength _>>_ _>>=_
-  setLength-fine k = then (asks-says (held? n) w) λ d _. edited {e = changeHeld n (resize (resized k (textOr d)))} tt (gives tt)
-
   -- the mode fits
   pub setMode-fine : (mode : ℕ) → Word mode → Fine (setModeNumber n mode) w
   unfolding setModeNumber _>>_ _>>=_
@@ -111,6 +131,15 @@ module _ (w : World) (n : ℕ) where
         go none y e = clash none o refl e
         go (some u) y e = subst (λ (x : Position). Long (x .pos)) (some-inj e) (s .numbers .each n u y .place)
 
+    -- its file's bytes are bytes
+    held-bytes : (d : Option Bytes) → answer (held? n) w ≡ d → T (bytesOk (textOr d))
+    unfolding answer bytesOk
+    held-bytes d e = subst (λ (x : Option Bytes). T (bytesOk (textOr x))) e (go (openOf (w .opens) n))
+      where
+        go : (q : Option Open) → T (bytesOk (textOr (onSome q (λ o. onSome (fileOf (w .files) (o .id)) (λ f. some (f .bytes))))))
+        go none = tt
+        go (some u) = file-bytes (w .files) (s .table) (u .id)
+
     -- and so does the length of its file
     held-long : Small (w .files) → Long (length (textOr (answer (held? n) w)))
     unfolding answer
@@ -119,6 +148,11 @@ module _ (w : World) (n : ℕ) where
         go : (q : Option Open) → Long (length (textOr (onSome q (λ o. onSome (fileOf (w .files) (o .id)) (λ f. some (f .bytes))))))
         go none = lit< tt
         go (some u) = bytes-long (w .files) m (u .id)
+
+    -- a new length leaves bytes
+    pub setLength-fine : (k : ℕ) → Fine (setLength n k) w
+    unfolding setLength _>>_ _>>=_
+    setLength-fine k = then (asks-says (held? n) w) λ d e. edited {e = changeHeld n (resize (resized k (textOr d)))} (resized-bytes k (textOr d) (held-bytes d e)) (gives tt)
 
     -- a read ends within 64 bits
     pub readNumber-fine : Small (w .files) → (lent : ℕ) → Fine (readNumber n lent) w

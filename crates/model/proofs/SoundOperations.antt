@@ -3,7 +3,7 @@
 use mathlib.Core.Bool.{Bool, true, false, _&&_, cond, not}
 use mathlib.Core.List.{List, [], _∷_, _++_}
 use mathlib.Core.Option.{Option, none, some}
-use mathlib.Core.Path.{_≡_, refl, sym, ap, _∙_}
+use mathlib.Core.Path.{_≡_, refl, sym, ap, _∙_, subst}
 use Prim.Native.Nat.{ℕ, _≤_}
 use lib.Dec.{T, leb, lit<}
 use lib.ListN.{length}
@@ -14,9 +14,9 @@ use Rattle.model.specs.Prog.{World, Kind, kind?, stat?, bytes?, target?,
 use Rattle.model.specs.Lookup.{Met, found, missing, lastLink, midLink, mostLinks, textOr}
 use Rattle.model.specs.Operations
 use Rattle.model.specs.Operations.{fresh, freshDir, freshLink, fits, resolve, canonicalize, setCurrentDir, createDir, Flags, lengthAt, truncated, startAt, openFile, contentsAt, readFile, writeAt, writeTo, writeFile, copyFile, hardLink, linkFile, removal, metadataAt, metadata, placeOf, symlinkMetadata, onlyLink, readLink, setPermissions, setTimes, list, namesText}
-use Rattle.model.specs.Rules.{pathOk, targetOk}
+use Rattle.model.specs.Rules.{pathOk, targetOk, bytesOk, FileOk}
 use Rattle.model.specs.Passable.{Word, Long, Clock}
-use Rattle.model.proofs.Sound.{Sound, Vacant}
+use Rattle.model.proofs.Sound.{FilesOk, Sound, Vacant}
 use Rattle.model.proofs.SoundEntries.{snoc-root}
 use Rattle.model.proofs.SoundLookups.{dir-shows, Stands, noFollow-says}
 use Rattle.model.proofs.SoundParts.{Fine, Quiet, fresh-ok, dir-ok, link-ok, below-dir, vacant, onlyFile-quiet, onlyDir-quiet, notFile-quiet, notDir-says, need-quiet, arrive-quiet, parentStands-says, toAbsolute-says, found-says, walked, entered, openWalk-says, made}
@@ -33,6 +33,20 @@ bytes-long fs m i = go (fileOf fs i) (m i)
     go : (o : Option File) → ((f : File) → o ≡ some f → Long (length (f .bytes))) → Long (length (textOr (onSome o (λ f. some (f .bytes)))))
     go none k = lit< tt
     go (some f) k = k f refl
+
+-- no bytes are bytes
+no-bytes : T (bytesOk [])
+unfolding bytesOk
+no-bytes = tt
+
+-- what is read of a file is bytes
+pub file-bytes : (fs : Files) → FilesOk fs → (i : ℕ) → T (bytesOk (textOr (onSome (fileOf fs i) (λ f. some (f .bytes)))))
+unfolding bytesOk
+file-bytes fs m i = go (fileOf fs i) (m .each i)
+  where
+    go : (o : Option File) → ((f : File) → o ≡ some f → FileOk f) → T (bytesOk (textOr (onSome o (λ f. some (f .bytes)))))
+    go none k = tt
+    go (some f) k = k f refl .1
 
 -- an edit of the tree or of a file leaves the open numbers
 change-opens : (w : World) (p : Path) (c : Change) (o : Option Node) → changeAt w p c o .opens ≡ w .opens
@@ -98,7 +112,7 @@ module _ (w : World) (s : Sound w) (b : ℕ) where
 
   truncated-meets : (c : Bool) (p : Path) (t : Time) → Clock t → Meets (λ _ v. v .opens ≡ w .opens) (truncated c p t) w
   unfolding truncated apply
-  truncated-meets true p t k = edited {e = change p (write [] t)} k (gives (change-opens w p (write [] t) (look (w .at) p)))
+  truncated-meets true p t k = edited {e = change p (write [] t)} (no-bytes, k) (gives (change-opens w p (write [] t) (look (w .at) p)))
   truncated-meets false p t k = gives refl
 
   openAt-fine : Small (w .files) → (f : Flags) (mode : ℕ) (t : Time) (n : ℕ) (p : Path) → Word mode → Clock t → n ≤ 31 → openOf (w .opens) n ≡ none
@@ -113,7 +127,7 @@ module _ (w : World) (s : Sound w) (b : ℕ) where
   openAt-fine m f mode t n p k c l u r none e =
       then (parentStands-says w p) λ _ j.
       then (need-quiet w (f .create) 8) λ _ _.
-      edited {e = create p (record { meta = fresh mode t; bytes = [] })} (vacant (w .at) p e r (j .0) (j .1), fresh-ok mode t k c)
+      edited {e = create p (record { meta = fresh mode t; bytes = [] })} (vacant (w .at) p e r (j .0) (j .1), (fresh-ok mode t k c, no-bytes))
       (edited {e = opens n p 0} (u, l, lit< tt, e .path) (gives tt))
 
   -- open makes a file only below a directory, and the number is free
@@ -128,43 +142,54 @@ module _ (w : World) (s : Sound w) (b : ℕ) where
 
   -- ---- read, write, copy, hard link
 
-  contents-quiet : (p : Path) → T (pathOk p) → Quiet (contentsAt b p) w
+  -- what is read is bytes
+  read-bytes : (p : Path) (c : Option Bytes) → answer (bytes? p) w ≡ c → T (bytesOk (textOr c))
+  unfolding answer bytesOf bytesOk
+  read-bytes p c e = subst (λ (x : Option Bytes). T (bytesOk (textOr x))) e (go (look (w .at) p))
+    where
+      go : (o : Option Node) → T (bytesOk (textOr (onSome o (bytesOf (w .files)))))
+      go none = tt
+      go (some (dir m)) = tt
+      go (some (file i)) = file-bytes (w .files) (s .table) i
+      go (some (link m g)) = tt
+
+  contents-says : (p : Path) → T (pathOk p) → Says (λ c. T (bytesOk (c .bytes))) (contentsAt b p) w
   unfolding contentsAt _>>_
-  contents-quiet p ok =
+  contents-says p ok =
       then (openWalk-says w s b p ok) λ a _.
       then (must-says (a .kind) w) λ k _.
       then (onlyFile-quiet w k) λ _ _.
-      then (asks-says (bytes? (a .path)) w) λ _ _.
-      gives (refl, tt)
+      then (asks-says (bytes? (a .path)) w) λ c e.
+      gives (refl, read-bytes (a .path) c e)
 
   -- read edits nothing
   pub readFile-fine : (g : Bytes) (lent : ℕ) → T (targetOk g) → Fine (readFile b (w .here) g lent) w
   unfolding readFile fits _>>_
   readFile-fine g lent t =
       then (toAbsolute-says w s g t) λ p ok.
-      then (contents-quiet p ok) λ c _.
+      then (contents-says p ok) λ c _.
       then (need-quiet w (leb (length (c .bytes)) lent) 14) λ _ _.
       gives tt
 
   module _ (t : Time) (tk : Clock t) where
-    writeAt-fine : (d : Bytes) (p : Path) → (p ≡ [] → ⊥) → (o : Option Kind) → Stands (w .at) p o → Fine (writeAt (w .mask) t d p o) w
+    writeAt-fine : (d : Bytes) → T (bytesOk d) → (p : Path) → (p ≡ [] → ⊥) → (o : Option Kind) → Stands (w .at) p o → Fine (writeAt (w .mask) t d p o) w
     unfolding writeAt _>>_
-    writeAt-fine d p r (some j) e = then (onlyFile-quiet w j) λ _ _. edited {e = change p (write d t)} tk (gives tt)
-    writeAt-fine d p r none e =
+    writeAt-fine d dk p r (some j) e = then (onlyFile-quiet w j) λ _ _. edited {e = change p (write d t)} (dk, tk) (gives tt)
+    writeAt-fine d dk p r none e =
         then (parentStands-says w p) λ _ j.
-        edited {e = create p (record { meta = fresh (w .mask) t; bytes = d })} (vacant (w .at) p e r (j .0) (j .1), fresh-ok (w .mask) t (s .umask) tk) (gives tt)
+        edited {e = create p (record { meta = fresh (w .mask) t; bytes = d })} (vacant (w .at) p e r (j .0) (j .1), (fresh-ok (w .mask) t (s .umask) tk, dk)) (gives tt)
 
-    writeTo-fine : (d : Bytes) (p : Path) → T (pathOk p) → Fine (writeTo b (w .mask) t d p) w
+    writeTo-fine : (d : Bytes) → T (bytesOk d) → (p : Path) → T (pathOk p) → Fine (writeTo b (w .mask) t d p) w
     unfolding writeTo _>>_
-    writeTo-fine d p ok =
+    writeTo-fine d dk p ok =
         then (openWalk-says w s b p ok) λ a e.
-        bind (writeAt-fine d (a .path) (e .1) (a .kind) (e .0)) λ _ _ _.
+        bind (writeAt-fine d dk (a .path) (e .1) (a .kind) (e .0)) λ _ _ _.
         gives tt
 
     -- write makes a file only below a directory
-    pub writeFile-fine : (g d : Bytes) → T (targetOk g) → Fine (writeFile b (w .here) (w .mask) g d t) w
+    pub writeFile-fine : (g d : Bytes) → T (bytesOk d) → T (targetOk g) → Fine (writeFile b (w .here) (w .mask) g d t) w
     unfolding writeFile
-    writeFile-fine g d k = then (toAbsolute-says w s g k) λ p ok. bind (writeTo-fine d p ok) λ _ _ _. gives tt
+    writeFile-fine g d dk k = then (toAbsolute-says w s g k) λ p ok. bind (writeTo-fine d dk p ok) λ _ _ _. gives tt
 
     -- so does copy
     pub copyFile-fine : (g d : Bytes) → T (targetOk g) → T (targetOk d) → Fine (copyFile b (w .here) (w .mask) g d t) w
@@ -172,8 +197,8 @@ module _ (w : World) (s : Sound w) (b : ℕ) where
     copyFile-fine g d k l =
         then (toAbsolute-says w s g k) λ p pk.
         then (toAbsolute-says w s d l) λ q qk.
-        then (contents-quiet p pk) λ c _.
-        bind (writeTo-fine (c .bytes) q qk) λ _ _ _.
+        then (contents-says p pk) λ c ck.
+        bind (writeTo-fine (c .bytes) ck q qk) λ _ _ _.
         gives tt
 
     -- and hard link
@@ -184,8 +209,8 @@ module _ (w : World) (s : Sound w) (b : ℕ) where
         then (toAbsolute-says w s d l) λ q qk.
         walked w s b p λ a j _.
         then (onlyFile-quiet w j) λ _ _.
-        then (asks-says (bytes? (a .path)) w) λ c _.
-        bind (writeTo-fine (textOr c) q qk) λ _ _ _.
+        then (asks-says (bytes? (a .path)) w) λ c e.
+        bind (writeTo-fine (textOr c) (read-bytes (a .path) c e) q qk) λ _ _ _.
         gives tt
 
   -- ---- link, remove

@@ -106,7 +106,7 @@ body-append [] q = refl
 body-append (n ∷ p) q = ap (_∷_ 47) (ap (_++_ n) (body-append p q) ∙ sym (append-assoc n (body p) (body q)))
 
 -- a path that begins one that fits fits
-fits-left : (p q : Path) → T (pathFits (p ++ q)) → T (pathFits p)
+pub fits-left : (p q : Path) → T (pathFits (p ++ q)) → T (pathFits p)
 unfolding pathFits
 fits-left p q h =
     le→leb (length (body p)) 1024 (omega (arith, leb→le (length (body (p ++ q))) 1024 h, ap length (body-append p q), length-append (body p) (body q)))

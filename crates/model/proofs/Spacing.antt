@@ -1,7 +1,7 @@
 -- While a call runs on two worlds, the second's entries and names grow by no more than the first's.
 -- Assumes nothing.
 use mathlib.Core.Bool.{false}
-use mathlib.Core.List.{List, [], _∷_, _++_, append-nil}
+use mathlib.Core.List.{[], _∷_, _++_, append-nil}
 use mathlib.Core.Option.{Option, none, some}
 use mathlib.Core.Path.{_≡_, refl, sym, ap, _∙_}
 use Prim.Native.Nat.{ℕ, _+_, _≤_}
@@ -10,13 +10,12 @@ use lib.ListN.{length}
 use Rattle.path.specs.Path.{Name}
 use Rattle.model.specs.Tree.{Path, Node, dir, file, link, Entries, Open, look, openOf, put, newId, changeMeta, nameLength, targetLength, namesAndTargets}
 use Rattle.model.specs.Prog.{World, Edit, make, create, symlink, change, remove, take, give, opens, close, seek, changeHeld, go, umask, apply, changeAt, openAt, changeBy}
-use Rattle.model.specs.Fuller.{exceptsEdit}
 use Rattle.model.proofs.Entries.{look-none, under-look}
-use Rattle.model.proofs.Over.{Over}
+use Rattle.model.proofs.Over.{Over, exceptsEdit}
 use Rattle.model.proofs.OverEdits.{Likes, dirs, files, links, likes, not-missed}
-use Rattle.model.proofs.Places.{inTree, inHand, seen}
+use Rattle.model.proofs.Places.{inTree, inHand}
 use Rattle.model.proofs.Tidy.{Tidy}
-use Rattle.model.proofs.Totals.{total, Has, total-has, put-used, cut-used, take-used, give-used}
+use Rattle.model.proofs.Totals.{total, Has, put-used, cut-used, take-used, give-used}
 
 -- where the first has nothing in hand, the second has not
 abbrev pub Top : World → World → Type 0

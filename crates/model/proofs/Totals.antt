@@ -2,14 +2,14 @@
 -- stays no less.
 -- Assumes nothing.
 use mathlib.Core.Bool.{Bool, true, false, not}
-use mathlib.Core.List.{List, [], _∷_, _++_, append-nil}
+use mathlib.Core.List.{[], _∷_, _++_, append-nil}
 use mathlib.Core.Option.{Option, none, some}
 use mathlib.Core.Path.{_≡_, refl, sym, ap, _∙_}
 use Prim.Native.Nat.{ℕ, _+_, _≤_}
 use native.Mathlib.Omega.{arith}
 use Rattle.path.specs.Path.{Name}
 use Rattle.model.specs.Tree.{Path, Node, Entries, orElse, keepIf, samePath, look, behind, less, put, outside, cut, inside, under, graft}
-use Rattle.model.proofs.Entries.{clash, some-inj, path-dec, path-equal, of-true, behind-is, behind-self, look-here, look-past, less-here, less-past, less-none, cut-in, cut-out, under-look, graft-in, graft-out, Apart, apart-less, apart-under}
+use Rattle.model.proofs.Entries.{clash, some-inj, path-dec, path-equal, of-true, behind-is, behind-self, look-here, look-past, less-past, less-none, under-look, graft-in, graft-out, Apart, apart-less, apart-under}
 
 -- of something by the last name, that a path before it does not change, and something by the node
 module _ (d : Path → ℕ) (c : Node → ℕ) where

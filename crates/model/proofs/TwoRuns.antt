@@ -3,11 +3,17 @@
 -- out of the questions and what of the edits are parameters.
 -- Assumes nothing.
 use mathlib.Core.Bool.{Bool, true, false, _||_}
-use mathlib.Core.Path.{_≡_, refl, sym, ap, _∙_}
+use mathlib.Core.Path.{_≡_, refl}
 use Prim.Native.Nat.{ℕ}
 use native.Mathlib.Omega.{arith}
-use Rattle.model.specs.Prog.{World, Ask, Answer, answer, Edit, apply, Prog, ret, stop, ask, edit, Out, done, refused, run}
-use Rattle.model.specs.Fuller.{exceptsBy}
+use Rattle.model.specs.Prog.{World, Ask, answer, Edit, apply, Prog, ret, stop, ask, edit, Out, done, refused, run}
+
+-- a program's questions and edits, as the first run goes, on both worlds as they then are: whether one of them is left out
+unfoldable pub exceptsBy : (Ask → World → World → Bool) → (Edit → World → World → Bool) → {A : Type 0} → Prog A → World → World → Bool
+exceptsBy asks edits (ret a) w v = false
+exceptsBy asks edits (stop n) w v = false
+exceptsBy asks edits (ask q k) w v = asks q w v || exceptsBy asks edits (k (answer q w)) w v
+exceptsBy asks edits (edit e p) w v = edits e w v || exceptsBy asks edits p (apply e w) (apply e v)
 
 -- both accepted with the same answer, in the relation; or both refused with the same number
 abbrev pub Alike : (World → World → Type 0) → {A : Type 0} → Out A → Out A → Type 0

@@ -2,7 +2,7 @@
 -- call answers and leaves.
 -- Assumes nothing.
 use mathlib.Core.Bool.{Bool, true, false, _&&_, _||_, cond, not}
-use mathlib.Core.List.{List, [], _∷_, _++_}
+use mathlib.Core.List.{List, [], _∷_}
 use mathlib.Core.Option.{Option, none, some}
 use Prim.Native.Nat.{ℕ, zero, suc, _+_, _/_, _%_}
 use lib.Dec.{leb, eqb}
@@ -10,9 +10,9 @@ use lib.ListN.{length}
 use Rattle.text.specs.Utf8.{Bytes}
 use Rattle.text.specs.Utf8.{text as isText}
 use Rattle.path.specs.Path.{lengthsOk}
-use Rattle.model.specs.Tree.{Path, Time, Node, dir, file, link, Entries, Files, Open, orElse, keepIf, openOf, namesAndTargets, contents, links}
+use Rattle.model.specs.Tree.{Path, Time, dir, file, link, Entries, Files, Open, keepIf, openOf, namesAndTargets, contents, links}
 use Rattle.model.specs.Prog.{World, Prog, Out, done, refused, run}
-use Rattle.model.specs.Operations.{Reply, plain, Flags, isSome, canonicalize, setCurrentDir, setUmask, createDir, openFile, readFile, writeFile, copyFile, hardLink, linkFile, removal, removeFile, removeDir, removeTree, rename, metadata, symlinkMetadata, readLink, setPermissions, setTimes, list, closeNumber, readNumber, seekNumber, setLength, setModeNumber, setTimesNumber, metadataNumber}
+use Rattle.model.specs.Operations.{Reply, Flags, isSome, canonicalize, setCurrentDir, setUmask, createDir, openFile, readFile, writeFile, copyFile, hardLink, linkFile, removal, removeFile, removeDir, removeTree, rename, metadata, symlinkMetadata, readLink, setPermissions, setTimes, list, closeNumber, readNumber, seekNumber, setLength, setModeNumber, setTimesNumber, metadataNumber}
 
 -- ---- the state
 
@@ -81,9 +81,11 @@ pub data Call : Type 0 where
 abbrev pub bit : ℕ → ℕ → Bool
 bit word value = eqb (word / value % 2) 1
 
+-- open's flags: create, create-new, truncate, append
 abbrev pub flagsOf : ℕ → Flags
 flagsOf w = record { create = bit w 1; createNew = bit w 2; truncate = bit w 4; append = bit w 8 }
 
+-- a time that is given, or not
 abbrev pub timeIf : Bool → Time → Option Time
 timeIf true t = some t
 timeIf false t = none
@@ -96,17 +98,21 @@ pub data Number : Type 0 where
   free : ℕ → Number
   opened : ℕ → Number
 
+-- the lengths of its working buffers, its texts in order, its number
 pub record Given : Type 0 where
   pub work : List ℕ
   pub texts : List Bytes
   pub number : Number
 
+-- a call with paths: "two lent working buffers" and its texts
 abbrev pub walks : Work → List Bytes → Given
 walks w ts = record { work = w .first ∷ w .second ∷ []; texts = ts; number = noNumber }
 
+-- a call by file number
 abbrev pub byNumber : ℕ → Given
 byNumber n = record { work = []; texts = []; number = opened n }
 
+-- what each call is lent and given
 unfoldable pub givenTo : Call → Given
 givenTo (canonicalizeCall w s k) = walks w (s ∷ [])
 givenTo (setCurrentDirCall w s) = walks w (s ∷ [])
@@ -136,6 +142,7 @@ givenTo (setModeCall n m) = byNumber n
 givenTo (setTimesNumberCall n f a m) = byNumber n
 givenTo (metadataNumberCall w n k) = record { work = w .first ∷ w .second ∷ []; texts = []; number = opened n }
 
+-- every one of a list
 unfoldable pub all : {A : Type 0} → (A → Bool) → List A → Bool
 all f [] = true
 all f (a ∷ l) = f a && all f l
@@ -146,6 +153,7 @@ numberOk noNumber os = true
 numberOk (free n) os = leb n 31 && not (isSome (openOf os n))
 numberOk (opened n) os = leb n 31 && isSome (openOf os n)
 
+-- a test passed, or the number of its refusal
 abbrev pub firstOf : Bool → ℕ → ℕ → ℕ
 firstOf true n rest = rest
 firstOf false n rest = n
@@ -192,12 +200,14 @@ program b h mask (metadataNumberCall w n k) = metadataNumber b n k
 
 -- ---- what it leaves: 15 and 16 are asked of the state that the call would leave
 
+-- an entry of the tree names the file
 unfoldable pub isNamed : Entries → ℕ → Bool
 isNamed [] i = false
 isNamed ((p, dir m) ∷ t) i = isNamed t i
 isNamed ((p, file j) ∷ t) i = eqb j i || isNamed t i
 isNamed ((p, link m s) ∷ t) i = isNamed t i
 
+-- a number is open on the file
 unfoldable pub isHeld : List Open → ℕ → Bool
 isHeld [] i = false
 isHeld (o ∷ os) i = eqb (o .id) i || isHeld os i
@@ -207,25 +217,35 @@ unfoldable pub kept : Entries → List Open → Files → Files
 kept t os [] = []
 kept t os (f ∷ fs) = keepIf (isNamed t (f .0) || isHeld os (f .0)) f (kept t os fs)
 
+-- the state as a call finds it, with nothing in hand
 abbrev pub worldOf : State → World
 worldOf s = record { at = s .tree; hand = []; files = s .files; opens = s .opens; here = s .here; mask = s .mask }
 
+-- the state that a call leaves, with the limits as they were
 abbrev pub stateOf : State → World → State
 stateOf s w =
     record { tree = w .at; files = kept (w .at) (w .opens) (w .files); opens = w .opens; here = w .here; mask = w .mask; most = s .most; room = s .room }
 
+-- accepted with an answer, or refused
 pub data Result : Type 0 where
   accepted : Reply → Result
   refusal : ℕ → Result
+
+-- "A refusal carries its number alone"; an accepted call has 0
+abbrev pub resultNumber : Result → ℕ
+resultNumber (accepted r) = 0
+resultNumber (refusal n) = n
 
 -- a result, and the state left
 pub record Outcome : Type 0 where
   pub result : Result
   pub after : State
 
+-- a result with the state left
 abbrev pub outcome : Result → State → Outcome
 outcome r s = record { result = r; after = s }
 
+-- 15 before 16; a refusal leaves the state as it was
 abbrev pub settleBy : Bool → Bool → State → Reply → State → Outcome
 settleBy false b s r t = outcome (refusal 15) s
 settleBy true false s r t = outcome (refusal 16) s
@@ -236,6 +256,7 @@ unfoldable pub settle : State → Out Reply → Outcome
 settle s (refused n) = outcome (refusal n) s
 settle s (done r w) = settleBy (leb (entriesUsed (stateOf s w)) (s .most)) (leb (bytesUsed (stateOf s w)) (s .room)) s r (stateOf s w)
 
+-- refused before the program, or what the program comes to
 abbrev pub decideBy : ℕ → State → Outcome → Outcome
 decideBy zero s o = o
 decideBy (suc n) s o = outcome (refusal (suc n)) s
@@ -255,6 +276,7 @@ unfoldable pub afterJob : List Call → State → State
 afterJob [] s = s
 afterJob (c ∷ j) s = afterJob j (perform c s .after)
 
+-- what each call of a job answers
 unfoldable pub results : List Call → State → List Result
 results [] s = []
 results (c ∷ j) s = perform c s .result ∷ results j (perform c s .after)

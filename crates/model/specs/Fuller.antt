@@ -7,13 +7,12 @@ use mathlib.Core.Option.{Option, none, some}
 use mathlib.Core.Path.{_≡_}
 use Prim.Native.Nat.{ℕ, zero, suc, _-_, _≤_}
 use lib.Dec.{eqb}
-use lib.ListN.{length, getD}
 use Rattle.text.specs.Utf8.{Bytes}
 use Rattle.path.specs.Path.{Name}
-use Rattle.model.specs.Tree.{Path, Meta, File, Node, dir, file, link, Entries, Files, Open, look, fileOf, openOf, links}
-use Rattle.model.specs.Prog.{World, Stat, Position, Ask, kind?, stat?, bytes?, target?, list?, bare?, open?, held?, answer, onSome, listing, Edit, make, create, symlink, change, remove, take, give, opens, close, seek, changeHeld, go, umask, apply, Prog, ret, stop, ask, edit}
-use Rattle.model.specs.Operations.{Reply, isSome}
-use Rattle.model.specs.Calls.{State, Call, entriesUsed, bytesUsed, isNamed, givenTo, screen, program, worldOf, Result, accepted, refusal, Outcome, perform}
+use Rattle.model.specs.Tree.{Path, Meta, File, Node, dir, file, link, Files, Open, look, fileOf, openOf, links}
+use Rattle.model.specs.Prog.{World, Stat, Position, Ask, kind?, stat?, bytes?, target?, list?, bare?, open?, held?, answer, onSome, listing, apply, Prog, ret, stop, ask, edit}
+use Rattle.model.specs.Operations.{isSome}
+use Rattle.model.specs.Calls.{State, Call, entriesUsed, bytesUsed, isNamed, givenTo, screen, program, worldOf, Result, accepted, refusal, perform}
 
 -- ---- what two states are to one another
 
@@ -23,11 +22,13 @@ pub data Shown : Type 0 where
   shownFile : Meta → Bytes → Shown
   shownLink : Meta → Bytes → Shown
 
+-- a node as it is seen: its file's number is not
 unfoldable pub shownNode : Files → Node → Option Shown
 shownNode fs (dir m) = some (shownDir m)
 shownNode fs (file i) = onSome (fileOf fs i) (λ f. some (shownFile (f .meta) (f .bytes)))
 shownNode fs (link m s) = some (shownLink m s)
 
+-- what stands at a path, as it is seen
 unfoldable pub shown : State → Path → Option Shown
 shown s p = onSome (look (s .tree) p) (shownNode (s .files))
 
@@ -39,6 +40,7 @@ HasEverything s u = (p : Path) (e : Shown) → shown s p ≡ some e → shown u 
 abbrev pub freeEntries : State → ℕ
 freeEntries s = s .most - entriesUsed s
 
+-- and for bytes
 abbrev pub freeBytes : State → ℕ
 freeBytes s = s .room - bytesUsed s
 
@@ -65,6 +67,7 @@ sameId none o = false
 sameId (some a) none = false
 sameId (some a) (some b) = eqb (a .id) (b .id)
 
+-- "the same numbers share one"
 unfoldable pub share : State → ℕ → ℕ → Bool
 share s n m = sameId (openOf (s .opens) n) (openOf (s .opens) m)
 
@@ -94,6 +97,7 @@ pub record Fuller (s u : State) : Type 0 where
 unfoldable pub misses : World → World → Path → Bool
 misses w v p = not (isSome (look (w .at) p)) && isSome (look (v .at) p)
 
+-- one of the names shown is none of the first's
 unfoldable pub lacksOne : World → Path → List (Name × Stat) → Bool
 lacksOne w p [] = false
 lacksOne w p (e ∷ l) = not (isSome (look (w .at) (p ++ (e .0 ∷ [])))) || lacksOne w p l
@@ -113,37 +117,19 @@ exceptsAsk (bare? p) w v = hasMore w v p
 exceptsAsk (open? n) w v = false
 exceptsAsk (held? n) w v = false
 
--- an edit of an entry that is there looks for its name
-unfoldable pub exceptsEdit : Edit → World → World → Bool
-exceptsEdit (make p m) w v = false
-exceptsEdit (create p f) w v = false
-exceptsEdit (symlink p m s) w v = false
-exceptsEdit (change p c) w v = misses w v p
-exceptsEdit (remove p) w v = false
-exceptsEdit (take p) w v = misses w v p
-exceptsEdit (give p) w v = false
-exceptsEdit (opens n p k) w v = misses w v p
-exceptsEdit (close n) w v = false
-exceptsEdit (seek n k) w v = false
-exceptsEdit (changeHeld n c) w v = false
-exceptsEdit (go p) w v = false
-exceptsEdit (umask m) w v = false
-
--- a program's questions and edits, as the first run goes, on both trees as they then are: whether one of them is left out
-unfoldable pub exceptsBy : (Ask → World → World → Bool) → (Edit → World → World → Bool) → {A : Type 0} → Prog A → World → World → Bool
-exceptsBy asks edits (ret a) w v = false
-exceptsBy asks edits (stop n) w v = false
-exceptsBy asks edits (ask q k) w v = asks q w v || exceptsBy asks edits (k (answer q w)) w v
-exceptsBy asks edits (edit e p) w v = edits e w v || exceptsBy asks edits p (apply e w) (apply e v)
-
-abbrev pub excepts : {A : Type 0} → Prog A → World → World → Bool
-excepts p w v = exceptsBy exceptsAsk exceptsEdit p w v
+-- the questions of a program, as the first run goes, on both trees as they then are: whether one of them is left out
+unfoldable pub excepts : {A : Type 0} → Prog A → World → World → Bool
+excepts (ret a) w v = false
+excepts (stop n) w v = false
+excepts (ask q k) w v = exceptsAsk q w v || excepts (k (answer q w)) w v
+excepts (edit e p) w v = excepts p (apply e w) (apply e v)
 
 -- "Refused for space is 15 or 16"
 unfoldable pub forSpace : Result → Bool
 forSpace (accepted r) = false
 forSpace (refusal n) = eqb n 15 || eqb n 16
 
+-- a call that is not refused before its program
 abbrev pub passes : ℕ → Bool → Bool
 passes zero b = b
 passes (suc n) b = false

@@ -39,6 +39,7 @@ untilSymlink d (x ∷ r) = do
   k ← asks (kind? d)
   onward d (x ∷ r) k (untilSymlink (d ++ (x ∷ [])) r)
 
+-- the target of a link, which stands where it is asked for
 abbrev pub textOr : Option Bytes → Bytes
 textOr none = []
 textOr (some s) = s
@@ -55,6 +56,7 @@ pub record Walked : Type 0 where
   pub met : Met
   pub links : List Path
 
+-- what was met, with the links before it
 abbrev pub walked : Met → List Path → Walked
 walked m ls = record { met = m; links = ls }
 
@@ -106,5 +108,6 @@ following (suc b) p ls = do
     q ← behindLink d []
     following b q (w .links ++ (d ∷ [])))
 
+-- lookup_entry_detail: a following lookup, from no link on
 abbrev pub lookup : ℕ → Path → Prog Where
 lookup b p = following b p []

@@ -4,15 +4,15 @@
 use mathlib.Core.Bool.{Bool, true, false, _&&_, _||_, cond, not}
 use mathlib.Core.List.{List, [], _∷_, _++_, dropLast}
 use mathlib.Core.Option.{Option, none, some}
-use Prim.Native.Nat.{ℕ, zero, suc, _+_, _-_, _%_, min, _^_}
-use lib.Dec.{leb, ltb, eqb}
+use Prim.Native.Nat.{ℕ, zero, suc, _+_, _-_, _%_, _^_}
+use lib.Dec.{leb, ltb}
 use lib.ListN.{length, drop, replicate}
 use lib.ListN.{take as prefix}
 use Rattle.text.specs.Utf8.{Bytes}
-use Rattle.path.specs.Path.{Name, same, names, isAbsolute, absolute, pathFits, render, lastName}
-use Rattle.model.specs.Tree.{Path, Time, Meta, File, samePath, behind, Change, write, resize, chmod, touch, touchSome}
-use Rattle.model.specs.Prog.{Kind, aDir, aFile, aLink, Stat, Position, kind?, stat?, bytes?, target?, list?, bare?, open?, held?, make, create, symlink, change, remove, take, give, opens, close, seek, changeHeld, go, umask, Prog, ret, stop, ask, edit, asks, edits, _>>=_, _>>_, need, isNil}
-use Rattle.model.specs.Lookup.{Met, found, missing, lastLink, midLink, Walked, noFollow, mostLinks, Where, lookup, textOr}
+use Rattle.path.specs.Path.{Name, names, isAbsolute, absolute, pathFits, render, lastName}
+use Rattle.model.specs.Tree.{Path, Time, Meta, samePath, behind, write, resize, chmod, touch, touchSome}
+use Rattle.model.specs.Prog.{Kind, aDir, aFile, aLink, Stat, Position, kind?, stat?, bytes?, target?, list?, bare?, open?, held?, make, create, symlink, change, remove, take, give, opens, close, seek, changeHeld, go, umask, Prog, ret, stop, asks, edits, _>>=_, _>>_, need, isNil}
+use Rattle.model.specs.Lookup.{Met, found, missing, lastLink, midLink, noFollow, mostLinks, Where, lookup, textOr}
 
 -- what a call answers: a number, what it writes to the front of the lent bytes and of the lent row of records, and "how many
 -- links it followed"
@@ -22,12 +22,15 @@ pub record Reply : Type 0 where
   pub rows : List Stat
   pub links : ℕ
 
+-- an answer of the link count alone
 abbrev pub plain : ℕ → Reply
 plain k = record { number = 0; out = []; rows = []; links = k }
 
+-- a number and the link count
 abbrev pub number : ℕ → ℕ → Reply
 number n k = record { number = n; out = []; rows = []; links = k }
 
+-- bytes, their length and the link count
 abbrev pub text : Bytes → ℕ → Reply
 text s k = record { number = length s; out = s; rows = []; links = k }
 
@@ -67,6 +70,7 @@ pub record Parted : Type 0 where
   pub before : Path
   pub name : Name
 
+-- the parts of a path that has a last name
 unfoldable pub parted : Path → Prog Parted
 parted [] = stop 5
 parted (x ∷ p) = ret (record { before = dropLast (x ∷ p); name = lastName (x ∷ p) })
@@ -77,6 +81,7 @@ isDirectory aDir = ret tt
 isDirectory aFile = stop 9
 isDirectory aLink = stop 9
 
+-- its path, once its links are followed
 unfoldable pub directory : ℕ → Path → Prog Path
 directory b p = do
   w ← lookup b p
@@ -97,11 +102,13 @@ onlyFile aFile = ret tt
 onlyFile aDir = stop 10
 onlyFile aLink = stop 10
 
+-- "remove or list on a non-directory"
 unfoldable pub onlyDir : Kind → Prog (Unit {0})
 onlyDir aDir = ret tt
 onlyDir aFile = stop 10
 onlyDir aLink = stop 10
 
+-- a directory
 unfoldable pub isDir : Kind → Bool
 isDir aDir = true
 isDir aFile = false
@@ -123,6 +130,7 @@ unfoldable pub makeFrom : Option Kind → Prog (Unit {0}) → Prog (Unit {0}) �
 makeFrom none new on = new
 makeFrom (some k) new on = on
 
+-- from the root on: what stands is passed, the first missing name and all behind it are made
 unfoldable pub makeMissing : Meta → Path → List Name → Prog (Unit {0})
 makeMissing m d [] = do
   k ← asks (kind? d)
@@ -143,6 +151,7 @@ resolve b h s = do
   _ ← must (w .kind)
   ret w
 
+-- canonicalize answers the path where the lookup ended
 unfoldable pub canonicalize : ℕ → Path → Bytes → ℕ → Prog Reply
 canonicalize b h s lent = do
   w ← resolve b h s
@@ -196,12 +205,14 @@ parentStands p = do
   _ ← must k
   ret tt
 
+-- open's flags
 pub record Flags : Type 0 where
   pub create : Bool
   pub createNew : Bool
   pub truncate : Bool
   pub append : Bool
 
+-- the length of the file at a path
 unfoldable pub lengthAt : Path → Prog ℕ
 lengthAt p = do
   s ← asks (bytes? p)
@@ -232,6 +243,7 @@ openAt f mode t n p none = do
   edits (create p (record { meta = fresh mode t; bytes = [] }))
   edits (opens n p 0)
 
+-- "Open": the path made absolute, its walk, the number on the file
 unfoldable pub openFile : ℕ → Path → Flags → ℕ → Time → ℕ → Bytes → Prog Reply
 openFile b h f mode t n s = do
   p ← toAbsolute h s
@@ -244,6 +256,7 @@ pub record Contents : Type 0 where
   pub bytes : Bytes
   pub links : ℕ
 
+-- its walk, and the bytes found there
 unfoldable pub contentsAt : ℕ → Path → Prog Contents
 contentsAt b p = do
   w ← openWalk b p
@@ -252,6 +265,7 @@ contentsAt b p = do
   s ← asks (bytes? (w .path))
   ret (record { bytes = textOr s; links = length (w .links) })
 
+-- "Read": the whole file, or 14
 unfoldable pub readFile : ℕ → Path → Bytes → ℕ → Prog Reply
 readFile b h s lent = do
   p ← toAbsolute h s
@@ -268,12 +282,14 @@ writeAt mask t s p none = do
   parentStands p
   edits (create p (record { meta = fresh mask t; bytes = s }))
 
+-- the walk of the path written to, and the links followed there
 unfoldable pub writeTo : ℕ → ℕ → Time → Bytes → Path → Prog ℕ
 writeTo b mask t s p = do
   w ← openWalk b p
   writeAt mask t s (w .path) (w .kind)
   ret (length (w .links))
 
+-- "write"
 unfoldable pub writeFile : ℕ → Path → ℕ → Bytes → Bytes → Time → Prog Reply
 writeFile b h mask s d t = do
   p ← toAbsolute h s
@@ -336,6 +352,7 @@ removal b h s f = do
   f (w .path ++ (l .name ∷ [])) e
   ret (plain (length (w .links)))
 
+-- "remove file on a non-file" is 10
 unfoldable pub removeFile : Path → Option Kind → Prog (Unit {0})
 removeFile p e = do
   k ← must e
@@ -360,6 +377,7 @@ removeTree p (some k) = do
 
 -- ---- rename
 
+-- there is one
 abbrev pub isSome : {A : Type 0} → Option A → Bool
 isSome none = false
 isSome (some a) = true
@@ -369,12 +387,14 @@ unfoldable pub sameSort : Bool → Bool → Bool
 sameSort true b = b
 sameSort false b = not b
 
+-- a directory that is replaced has no entries
 unfoldable pub emptied : Bool → Path → Prog (Unit {0})
 emptied false p = ret tt
 emptied true p = do
   n ← asks (bare? p)
   need n 12
 
+-- what stands at the new path, if anything
 unfoldable pub replaces : Kind → Path → Option Kind → Prog (Unit {0})
 replaces k p none = ret tt
 replaces k p (some e) = do
@@ -411,6 +431,7 @@ unfoldable pub renameBy : Bool → ℕ → Path → Path → Time → Prog Reply
 renameBy true b p q t = ret (plain 0)
 renameBy false b p q t = renameApart b p q t
 
+-- both paths are made absolute first: 6 of the old, then of the new
 unfoldable pub rename : ℕ → Path → Bytes → Bytes → Time → Prog Reply
 rename b h s d t = do
   p ← toAbsolute h s
@@ -419,9 +440,11 @@ rename b h s d t = do
 
 -- ---- metadata, read link, permissions, times, list
 
+-- an answer of one record
 abbrev pub statRow : Stat → ℕ → Reply
 statRow s k = record { number = 0; out = []; rows = s ∷ []; links = k }
 
+-- "Metadata" of where a path leads
 unfoldable pub metadataAt : ℕ → Path → ℕ → Prog Reply
 metadataAt b p lent = do
   w ← lookup b p
@@ -432,6 +455,7 @@ metadataAt b p lent = do
   fits 1 lent
   ret (statRow r (length (w .links)))
 
+-- of a path that is given
 unfoldable pub metadata : ℕ → Path → Bytes → ℕ → Prog Reply
 metadata b h s lent = do
   p ← toAbsolute h s
@@ -444,6 +468,7 @@ placeOf (missing d) = stop 8
 placeOf (lastLink d) = ret d
 placeOf (midLink d r) = stop 7
 
+-- "symlink metadata": of the link itself where the last name is one
 unfoldable pub symlinkMetadata : Path → Bytes → ℕ → Prog Reply
 symlinkMetadata h s lent = do
   p ← toAbsolute h s
@@ -461,6 +486,7 @@ onlyLink (missing d) = stop 8
 onlyLink (lastLink d) = ret d
 onlyLink (midLink d r) = stop 7
 
+-- read link answers the "target as given, not normalised"
 unfoldable pub readLink : Path → Bytes → ℕ → Prog Reply
 readLink h s lent = do
   p ← toAbsolute h s
@@ -470,6 +496,7 @@ readLink h s lent = do
   fits (length (textOr g)) lent
   ret (text (textOr g) (length (w .links)))
 
+-- "set permissions": the mode of where the path leads
 unfoldable pub setPermissions : ℕ → Path → Bytes → ℕ → Prog Reply
 setPermissions b h s mode = do
   p ← toAbsolute h s
@@ -494,6 +521,7 @@ unfoldable pub namesText : List (Name × Stat) → Bytes
 namesText [] = []
 namesText (e ∷ l) = e .0 ++ (0 ∷ namesText l)
 
+-- the records of a listing
 unfoldable pub statsOf : List (Name × Stat) → List Stat
 statsOf [] = []
 statsOf (e ∷ l) = e .1 ∷ statsOf l
@@ -513,6 +541,7 @@ list b h s lent rows = do
 
 -- ---- by file number
 
+-- "close"
 unfoldable pub closeNumber : ℕ → Prog Reply
 closeNumber n = do
   edits (close n)
@@ -522,6 +551,7 @@ closeNumber n = do
 unfoldable pub readPart : Position → Option Bytes → ℕ → Bytes
 readPart o s lent = prefix lent (drop (o .pos) (textOr s))
 
+-- "read": from the position on, which moves behind what was read
 unfoldable pub readNumber : ℕ → ℕ → Prog Reply
 readNumber n lent = do
   q ← asks (open? n)
@@ -543,6 +573,7 @@ seekFrom zero offset pos size = ret offset
 seekFrom (suc zero) offset pos size = ret ((pos + offset) % 2 ^ 64)
 seekFrom (suc (suc k)) offset pos size = fromEnd offset size
 
+-- "seek" answers the new position
 unfoldable pub seekNumber : ℕ → ℕ → ℕ → Prog Reply
 seekNumber n origin offset = do
   q ← asks (open? n)
@@ -556,12 +587,14 @@ seekNumber n origin offset = do
 unfoldable pub resized : ℕ → Bytes → Bytes
 resized k s = prefix k s ++ replicate (k - length s) 0
 
+-- "set length": of the file that the number stands on
 unfoldable pub setLength : ℕ → ℕ → Prog Reply
 setLength n k = do
   s ← asks (held? n)
   edits (changeHeld n (resize (resized k (textOr s))))
   ret (plain 0)
 
+-- "set mode"
 unfoldable pub setModeNumber : ℕ → ℕ → Prog Reply
 setModeNumber n mode = do
   edits (changeHeld n (chmod mode))

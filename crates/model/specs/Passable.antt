@@ -1,4 +1,4 @@
--- The calls that C can make: each number of a call fits its C type. Paths, targets and data are any bytes.
+-- The calls that C can make: each number of a call fits its C type, and data are bytes.
 -- Assumes nothing.
 use mathlib.Core.List.{List, [], _∷_}
 use Prim.Native.Nat.{ℕ, _<_, _^_}
@@ -6,7 +6,7 @@ use lib.Dec.{T}
 use Rattle.model.specs.Tree.{Time}
 use Rattle.model.specs.Calls
 use Rattle.model.specs.Calls.{Call, Work}
-use Rattle.model.specs.Rules.{timeOk}
+use Rattle.model.specs.Rules.{timeOk, bytesOk}
 
 -- an unsigned 32-bit number: a mode, an umask, flags, a file number, the origin of a seek
 abbrev pub Word : ℕ → Type 0
@@ -38,8 +38,9 @@ Passable (Calls.createDirCall w s t) = WorkFits w × Clock t
 Passable (Calls.openCall w n s f m t) = WorkFits w × Word n × Word f × Word m × Clock t
 -- the lent bytes
 Passable (Calls.readCall w s k) = WorkFits w × Long k
--- the time of what is written, copied or made
-Passable (Calls.writeCall w s d t) = WorkFits w × Clock t
+-- the data and the time of what is written
+Passable (Calls.writeCall w s d t) = WorkFits w × T (bytesOk d) × Clock t
+-- the time of what is copied or made
 Passable (Calls.copyCall w s d t) = WorkFits w × Clock t
 Passable (Calls.hardLinkCall w s d t) = WorkFits w × Clock t
 Passable (Calls.linkCall w g s t) = WorkFits w × Clock t

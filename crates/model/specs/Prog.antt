@@ -8,7 +8,7 @@ use lib.Dec.{eqb}
 use lib.ListN.{length}
 use Rattle.text.specs.Utf8.{Bytes}
 use Rattle.path.specs.Path.{Name}
-use Rattle.model.specs.Tree.{Path, Time, Meta, File, Node, dir, file, link, Entries, Files, Open, orElse, keepIf, look, fileOf, openOf, put, cut, under, graft, Change, changeMeta, changeFile, setFile, newId, inOrder}
+use Rattle.model.specs.Tree.{Path, Meta, File, Node, dir, file, link, Entries, Files, Open, keepIf, look, fileOf, openOf, put, cut, under, graft, Change, changeMeta, setFile, newId, inOrder}
 
 -- what a call works on: the state without its limits, and in rename's hand the entry that is out of the tree
 pub record World : Type 0 where
@@ -19,8 +19,15 @@ pub record World : Type 0 where
   pub here : Path
   pub mask : ℕ
 
+-- directory, file or link
 pub data Kind : Type 0 where
   aDir aFile aLink : Kind
+
+-- the number of a kind in a record (02, Two: "kind (0 directory, 1 file, 2 link)")
+abbrev pub kindNumber : Kind → ℕ
+kindNumber aDir = 0
+kindNumber aFile = 1
+kindNumber aLink = 2
 
 -- what metadata shows: kind, length, mode and times
 pub record Stat : Type 0 where
@@ -35,6 +42,8 @@ pub record Position : Type 0 where
 
 -- ---- questions
 
+-- what a call may ask: kind, metadata, bytes or target at a path; the names of a directory, or whether it has none; position and
+-- bytes of a number
 pub data Ask : Type 0 where
   kind? : Path → Ask
   stat? : Path → Ask
@@ -45,6 +54,7 @@ pub data Ask : Type 0 where
   open? : ℕ → Ask
   held? : ℕ → Ask
 
+-- what it is told; of what is not there, nothing
 abbrev pub Answer : Ask → Type 0
 Answer (kind? p) = Option Kind
 Answer (stat? p) = Option Stat
@@ -55,10 +65,12 @@ Answer (bare? p) = Bool
 Answer (open? n) = Option Position
 Answer (held? n) = Option Bytes
 
+-- of what is there
 abbrev pub onSome : {A B : Type 0} → Option A → (A → Option B) → Option B
 onSome none f = none
 onSome (some a) f = f a
 
+-- the kind of a node
 unfoldable pub kindOf : Node → Kind
 kindOf (dir m) = aDir
 kindOf (file i) = aFile
@@ -70,16 +82,19 @@ statOf fs (dir m) = some (record { kind = aDir; size = 0; meta = m })
 statOf fs (file i) = onSome (fileOf fs i) (λ f. some (record { kind = aFile; size = length (f .bytes); meta = f .meta }))
 statOf fs (link m s) = some (record { kind = aLink; size = 0; meta = m })
 
+-- a file's bytes
 unfoldable pub bytesOf : Files → Node → Option Bytes
 bytesOf fs (dir m) = none
 bytesOf fs (file i) = onSome (fileOf fs i) (λ f. some (f .bytes))
 bytesOf fs (link m s) = none
 
+-- "links have a target"
 unfoldable pub targetOf : Node → Option Bytes
 targetOf (dir m) = none
 targetOf (file i) = none
 targetOf (link m s) = some s
 
+-- an entry right below, with its metadata
 abbrev pub child : Path → Option Stat → List (Name × Stat) → List (Name × Stat)
 child (x ∷ []) (some s) l = (x, s) ∷ l
 child (x ∷ []) none l = l
@@ -91,13 +106,16 @@ unfoldable pub children : Files → Entries → List (Name × Stat)
 children fs [] = []
 children fs (e ∷ t) = child (e .0) (statOf fs (e .1)) (children fs t)
 
+-- nothing in it
 abbrev pub isNil : {A : Type 0} → List A → Bool
 isNil [] = true
 isNil (a ∷ l) = false
 
+-- "names in order, with metadata"
 unfoldable pub listing : World → Path → List (Name × Stat)
 listing w p = inOrder (children (w .files) (under p (w .at)))
 
+-- the answer that a world gives
 unfoldable pub answer : (q : Ask) → World → Answer q
 answer (kind? p) w = onSome (look (w .at) p) (λ n. some (kindOf n))
 answer (stat? p) w = onSome (look (w .at) p) (statOf (w .files))
@@ -110,6 +128,8 @@ answer (held? n) w = onSome (openOf (w .opens) n) (λ o. onSome (fileOf (w .file
 
 -- ---- edits
 
+-- what a call may do: make a directory, a file, a link; change an entry; remove one with all below it; take one in hand and put
+-- it down; open and close a number, set its position, change its file; set the current directory; set the umask
 pub data Edit : Type 0 where
   make : Path → Meta → Edit
   create : Path → File → Edit
@@ -125,12 +145,15 @@ pub data Edit : Type 0 where
   go : Path → Edit
   umask : ℕ → Edit
 
+-- another tree
 abbrev pub withTree : World → Entries → World
 withTree w t = record { at = t; hand = w .hand; files = w .files; opens = w .opens; here = w .here; mask = w .mask }
 
+-- other files
 abbrev pub withFiles : World → Files → World
 withFiles w fs = record { at = w .at; hand = w .hand; files = fs; opens = w .opens; here = w .here; mask = w .mask }
 
+-- other open numbers
 abbrev pub withOpens : World → List Open → World
 withOpens w os = record { at = w .at; hand = w .hand; files = w .files; opens = os; here = w .here; mask = w .mask }
 
@@ -141,6 +164,7 @@ changeAt w p c (some (dir m)) = withTree w (put p (dir (changeMeta c m)) (w .at)
 changeAt w p c (some (file i)) = withFiles w (setFile i c (w .files))
 changeAt w p c (some (link m s)) = withTree w (put p (link (changeMeta c m) s) (w .at))
 
+-- the number is open no more
 unfoldable pub closeNum : ℕ → List Open → List Open
 closeNum n [] = []
 closeNum n (o ∷ os) = keepIf (not (eqb (o .num) n)) o (closeNum n os)
@@ -152,18 +176,22 @@ openAt w n p k (some (dir m)) = w
 openAt w n p k (some (file i)) = withOpens w ((record { num = n; id = i; pos = k; kept = p }) ∷ closeNum n (w .opens))
 openAt w n p k (some (link m s)) = w
 
+-- a number at another position
 abbrev pub moveBy : Bool → ℕ → Open → Open
 moveBy true k o = record { num = o .num; id = o .id; pos = k; kept = o .kept }
 moveBy false k o = o
 
+-- that number at another position
 unfoldable pub seekNum : ℕ → ℕ → List Open → List Open
 seekNum n k [] = []
 seekNum n k (o ∷ os) = moveBy (eqb (o .num) n) k o ∷ seekNum n k os
 
+-- the file that a number stands on is changed
 abbrev pub changeBy : World → Change → Option Open → World
 changeBy w c none = w
 changeBy w c (some o) = withFiles w (setFile (o .id) c (w .files))
 
+-- what an edit makes of a world
 unfoldable pub apply : Edit → World → World
 apply (make p m) w = withTree w (put p (dir m) (w .at))
 apply (create p f) w = withFiles (withTree w (put p (file (newId (w .files))) (w .at))) ((newId (w .files), f) ∷ w .files)
@@ -190,6 +218,7 @@ pub data Prog (A : Type 0) : Type 0 where
   ask : (q : Ask) → (Answer q → Prog A) → Prog A
   edit : Edit → Prog A → Prog A
 
+-- a program, and what follows on its answer
 infixl 30 _>>=_
 unfoldable pub _>>=_ : {A B : Type 0} → Prog A → (A → Prog B) → Prog B
 _>>=_ (ret a) f = f a
@@ -197,13 +226,16 @@ _>>=_ (stop n) f = stop n
 _>>=_ (ask q k) f = ask q (λ a. k a >>= f)
 _>>=_ (edit e p) f = edit e (p >>= f)
 
+-- whatever its answer
 infixl 30 _>>_
 unfoldable pub _>>_ : {A B : Type 0} → Prog A → Prog B → Prog B
 _>>_ p q = p >>= λ _. q
 
+-- a question alone
 abbrev pub asks : (q : Ask) → Prog (Answer q)
 asks q = ask q ret
 
+-- an edit alone
 abbrev pub edits : Edit → Prog (Unit {0})
 edits e = edit e (ret tt)
 
@@ -217,6 +249,7 @@ pub data Out (A : Type 0) : Type 0 where
   done : A → World → Out A
   refused : ℕ → Out A
 
+-- questions are answered by the world as it then is, edits change it, a refusal ends all
 unfoldable pub run : {A : Type 0} → Prog A → World → Out A
 run (ret a) w = done a w
 run (stop n) w = refused n

@@ -1,22 +1,23 @@
 -- The rules that every state obeys (01, "The tree", "Limits").
 -- Assumes nothing.
-use mathlib.Core.Bool.{Bool, true, false, _&&_, _||_, not}
+use mathlib.Core.Bool.{Bool, true, _&&_, _||_}
 use mathlib.Core.List.{List, [], _∷_, _++_}
-use mathlib.Core.Option.{Option, none, some}
+use mathlib.Core.Option.{none, some}
 use mathlib.Core.Path.{_≡_}
 use Prim.Native.Nat.{ℕ, _≤_, _<_, _^_}
 use lib.Dec.{T, leb, ltb}
-use lib.IntN.{ℤ, pos, negsuc}
+use lib.IntN.{pos, negsuc}
 use lib.ListN.{length}
 use Rattle.text.specs.Utf8.{Bytes, text}
 use Rattle.path.specs.Path.{Name, proper, lengthsOk, pathFits}
 use Rattle.model.specs.Tree.{Path, Time, Meta, File, Node, dir, file, link, Entries, Files, Open, look, fileOf, openOf}
-use Rattle.model.specs.Calls.{State, entriesUsed, bytesUsed, isNamed, isHeld, Call}
+use Rattle.model.specs.Calls.{State, entriesUsed, bytesUsed, isNamed, isHeld}
 
 -- "name at most 255", "none is empty, `.`, `..` or holds `/`", valid text
 unfoldable pub nameOk : Name → Bool
 nameOk n = proper n && (leb (length n) 255 && text n)
 
+-- each name of a path
 unfoldable pub namesOk : Path → Bool
 namesOk [] = true
 namesOk (n ∷ p) = nameOk n && namesOk p
@@ -38,6 +39,15 @@ timeOk (negsuc n) = ltb n (2 ^ 63)
 unfoldable pub metaOk : Meta → Bool
 metaOk m = ltb (m .mode) (2 ^ 32) && (timeOk (m .accessed) && (timeOk (m .changed) && (timeOk (m .created) && timeOk (m .modified))))
 
+-- a byte has 8 bits
+unfoldable pub bytesOk : Bytes → Bool
+bytesOk [] = true
+bytesOk (b ∷ s) = ltb b 256 && bytesOk s
+
+-- what a file may be
+abbrev pub FileOk : File → Type 0
+FileOk f = T (metaOk (f .meta)) × T (bytesOk (f .bytes))
+
 -- what a node may be: a file's number has a file
 abbrev pub NodeOk : Files → Node → Type 0
 NodeOk fs (dir m) = T (metaOk m)
@@ -49,15 +59,19 @@ abbrev pub Once : {A : Type 0} → (List A → A → Type 0) → List A → Type
 Once new [] = Unit {0}
 Once new (a ∷ l) = new l a × Once new l
 
+-- no other entry has its path
 abbrev pub newPath : Entries → Path × Node → Type 0
 newPath t e = look t (e .0) ≡ none
 
+-- no other file has its number
 abbrev pub newFile : Files → ℕ × File → Type 0
 newFile fs f = fileOf fs (f .0) ≡ none
 
+-- no other open number is the same
 abbrev pub newNumber : List Open → Open → Type 0
 newNumber os o = openOf os (o .num) ≡ none
 
+-- what every state obeys
 pub record Obeys (s : State) : Type 0 where
   -- "Set up .. takes an entry limit of 1 to 4,096 and a byte limit of 256 to 1,048,576"
   pub entryLimit : (1 ≤ s .most) × (s .most ≤ 4096)
@@ -72,7 +86,7 @@ pub record Obeys (s : State) : Type 0 where
   pub named : (p : Path) (n : Node) → look (s .tree) p ≡ some n → T (namesOk p)
   pub nodes : (p : Path) (n : Node) → look (s .tree) p ≡ some n → NodeOk (s .files) n
   pub files : Once newFile (s .files)
-  pub fileMetas : (i : ℕ) (f : File) → fileOf (s .files) i ≡ some f → T (metaOk (f .meta))
+  pub eachFile : (i : ℕ) (f : File) → fileOf (s .files) i ≡ some f → FileOk f
   -- each file has exactly one name, or none while a number is open on it
   pub oneName : (p q : Path) (i : ℕ) → look (s .tree) p ≡ some (file i) → look (s .tree) q ≡ some (file i) → p ≡ q
   pub used : (i : ℕ) (f : File) → fileOf (s .files) i ≡ some f → T (isNamed (s .tree) i || isHeld (s .opens) i)

@@ -26,6 +26,7 @@ pub record Meta : Type 0 where
   pub created : Time
   pub modified : Time
 
+-- "Files have bytes", and metadata
 pub record File : Type 0 where
   pub meta : Meta
   pub bytes : Bytes
@@ -40,6 +41,7 @@ pub data Node : Type 0 where
 abbrev pub Entries : Type 0
 Entries = List (Path × Node)
 
+-- the files, each with its number
 abbrev pub Files : Type 0
 Files = List (ℕ × File)
 
@@ -52,12 +54,14 @@ pub record Open : Type 0 where
 
 -- ---- looking
 
+-- two paths are the same names
 unfoldable pub samePath : Path → Path → Bool
 samePath [] [] = true
 samePath [] (y ∷ q) = false
 samePath (x ∷ p) [] = false
 samePath (x ∷ p) (y ∷ q) = same x y && samePath p q
 
+-- this one, or what else is found
 abbrev pub orElse : {A : Type 0} → Bool → A → Option A → Option A
 orElse true a o = some a
 orElse false a o = o
@@ -67,10 +71,12 @@ unfoldable pub look : Entries → Path → Option Node
 look [] q = none
 look (e ∷ t) q = orElse (samePath (e .0) q) (e .1) (look t q)
 
+-- the file of a number
 unfoldable pub fileOf : Files → ℕ → Option File
 fileOf [] i = none
 fileOf (f ∷ fs) i = orElse (eqb (f .0) i) (f .1) (fileOf fs i)
 
+-- what is open under a file number
 unfoldable pub openOf : List Open → ℕ → Option Open
 openOf [] n = none
 openOf (o ∷ os) n = orElse (eqb (o .num) n) o (openOf os n)
@@ -80,6 +86,7 @@ abbrev pub behindBy : Bool → Option Path → Option Path
 behindBy true o = o
 behindBy false o = none
 
+-- the names behind a path, where the other begins with it
 unfoldable pub behind : Path → Path → Option Path
 behind [] q = some q
 behind (x ∷ p) [] = none
@@ -87,6 +94,7 @@ behind (x ∷ p) (y ∷ q) = behindBy (same x y) (behind p q)
 
 -- ---- edits of the entries
 
+-- kept, or left out
 abbrev pub keepIf : {A : Type 0} → Bool → A → List A → List A
 keepIf true a l = a ∷ l
 keepIf false a l = l
@@ -100,6 +108,7 @@ less p (e ∷ t) = keepIf (not (samePath (e .0) p)) e (less p t)
 unfoldable pub put : Path → Node → Entries → Entries
 put p n t = (p, n) ∷ less p t
 
+-- an entry that is not behind the path is kept
 abbrev pub outside : Option Path → Path × Node → Entries → Entries
 outside none e t = e ∷ t
 outside (some r) e t = t
@@ -109,6 +118,7 @@ unfoldable pub cut : Path → Entries → Entries
 cut p [] = []
 cut p (e ∷ t) = outside (behind p (e .0)) e (cut p t)
 
+-- one that is, by the names behind it
 abbrev pub inside : Option Path → Node → Entries → Entries
 inside none n t = t
 inside (some r) n t = (r, n) ∷ t
@@ -133,10 +143,12 @@ pub data Change : Type 0 where
   touch : Time → Time → Change
   touchSome : Option Time → Option Time → Change
 
+-- a time that is given, else the old one
 abbrev pub given : Option Time → Time → Time
 given none t = t
 given (some a) t = a
 
+-- metadata after a change; "accessed, changed, created get the first time, modified the second"
 unfoldable pub changeMeta : Change → Meta → Meta
 changeMeta (write b t) m = record { mode = m .mode; accessed = m .accessed; changed = m .changed; created = m .created; modified = t }
 changeMeta (resize b) m = m
@@ -145,6 +157,7 @@ changeMeta (touch a t) m = record { mode = m .mode; accessed = a; changed = a; c
 changeMeta (touchSome a t) m =
     record { mode = m .mode; accessed = given a (m .accessed); changed = m .changed; created = m .created; modified = given t (m .modified) }
 
+-- bytes after a change
 unfoldable pub changeBytes : Change → Bytes → Bytes
 changeBytes (write b t) s = b
 changeBytes (resize b) s = b
@@ -152,9 +165,11 @@ changeBytes (chmod k) s = s
 changeBytes (touch a t) s = s
 changeBytes (touchSome a t) s = s
 
+-- a file after a change
 abbrev pub changeFile : Change → File → File
 changeFile c f = record { meta = changeMeta c (f .meta); bytes = changeBytes c (f .bytes) }
 
+-- the file of that number is changed
 unfoldable pub setFile : ℕ → Change → Files → Files
 setFile i c [] = []
 setFile i c (f ∷ fs) = (f .0, cond (eqb (f .0) i) (changeFile c (f .1)) (f .1)) ∷ setFile i c fs
@@ -173,6 +188,7 @@ before [] (b ∷ t) = true
 before (a ∷ s) [] = false
 before (a ∷ s) (b ∷ t) = ltb a b || (eqb a b && before s t)
 
+-- before the other, or behind it
 abbrev pub placeBy : {A : Type 0} → Bool → A → A → List A → List A → List A
 placeBy true a b l rest = a ∷ b ∷ l
 placeBy false a b l rest = b ∷ rest
@@ -182,6 +198,7 @@ unfoldable pub place : {A : Type 0} → Name × A → List (Name × A) → List 
 place e [] = e ∷ []
 place e (f ∷ l) = placeBy (before (e .0) (f .0)) e f l (place e l)
 
+-- each put in its place
 unfoldable pub inOrder : {A : Type 0} → List (Name × A) → List (Name × A)
 inOrder [] = []
 inOrder (e ∷ l) = place e (inOrder l)
@@ -194,6 +211,7 @@ nameLength [] = 0
 nameLength (x ∷ []) = length x
 nameLength (x ∷ y ∷ p) = nameLength (y ∷ p)
 
+-- the length of a target
 unfoldable pub targetLength : Node → ℕ
 targetLength (dir m) = 0
 targetLength (file i) = 0

@@ -21,6 +21,7 @@ use Rattle.path.specs.declared.plain.Plain.the-variants.{From, No}
 use Rattle.path.specs.declared.sifting.Back.{Back}
 use Rattle.path.specs.declared.sifting.Back.the-variants.{Gone, Keeps}
 
+-- the first, or the second
 abbrev pub pick : Bool → Formed → Formed → Formed
 pick true a b = a
 pick false a b = b

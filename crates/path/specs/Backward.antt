@@ -8,6 +8,7 @@ use lib.ListN.{take, drop}
 use Rattle.text.specs.Utf8.{Bytes}
 use Rattle.path.specs.Path.{Name, pieces, vanishes, isUp}
 
+-- the kind of a piece, by what the tests below say of it
 abbrev pub kindBy : Bool → Bool → Bool → ℕ
 kindBy strike true up = 0
 kindBy true false true = 1
@@ -23,9 +24,11 @@ pub record Sifted : Type 0 where
   pub skip : ℕ
   pub kept : List Name
 
+-- how many are struck, and what is kept
 abbrev pub mk : ℕ → List Name → Sifted
 mk k ns = record { skip = k; kept = ns }
 
+-- a name is struck while one is to be struck, else kept
 abbrev pub keepOne : ℕ → Name → List Name → Sifted
 keepOne zero n ns = mk 0 (n ∷ ns)
 keepOne (suc k) n ns = mk k ns
@@ -36,6 +39,7 @@ siftOne zero n z = z
 siftOne (suc zero) n z = mk (suc (z .skip)) (z .kept)
 siftOne (suc (suc k)) n z = keepOne (z .skip) n (z .kept)
 
+-- a path read from its end, piece by piece
 unfoldable pub sift : Bool → List Name → Sifted → Sifted
 sift strike [] z = z
 sift strike (n ∷ ns) z = siftOne (kindOf strike n) n (sift strike ns z)

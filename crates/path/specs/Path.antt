@@ -7,6 +7,7 @@ use lib.Dec.{eqb, leb}
 use lib.ListN.{length}
 use Rattle.text.specs.Utf8.{Bytes}
 
+-- a name is its bytes
 abbrev pub Name : Type 0
 Name = Bytes
 
@@ -40,6 +41,7 @@ dotdot = 46 ∷ 46 ∷ []
 unfoldable pub vanishes : Name → Bool
 vanishes n = same n [] || same n dot
 
+-- `..`
 unfoldable pub isUp : Name → Bool
 isUp n = same n dotdot
 
@@ -120,6 +122,7 @@ noSlash (b ∷ n) = not (eqb b 47) && noSlash n
 unfoldable pub proper : Name → Bool
 proper n = not (vanishes n) && (not (isUp n) && noSlash n)
 
+-- each name of a path
 unfoldable pub allProper : List Name → Bool
 allProper [] = true
 allProper (n ∷ ns) = proper n && allProper ns

@@ -15,9 +15,11 @@ pub record Range : Type 0 where
   pub low : ℕ
   pub high : ℕ
 
+-- from the first byte to the second
 abbrev pub to : ℕ → ℕ → Range
 to l h = record { low = l; high = h }
 
+-- the byte is in the range
 abbrev pub inside : Range → ℕ → Bool
 inside r b = leb (r .low) b && leb b (r .high)
 
