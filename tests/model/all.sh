@@ -1,0 +1,10 @@
+#!/bin/sh
+# all.sh SOURCES: builds the Rust and its counted copy, then compares, about twelve minutes on one core.
+set -eu
+cd "$(dirname "$0")"
+./build.sh "$1"
+python3 cases.py
+for k in "plain 11 400 50" "links 12 300 50" "rename 13 300 50" "files 14 400 50" "dirty 15 200 40" "tight 16 300 40" "fresh 18 60 30" "long 17 60 40"; do
+    # shellcheck disable=SC2086
+    ./one_kind.sh $k | grep -v "^[0-9]* jobs, 0 differ"
+done
