@@ -15,7 +15,7 @@ EDITS = {
     "41 links": ("Lookup", "mostLinks = 40", "mostLinks = 41"),
     "chain bound one short": ("Calls", "perform c s = performWith (links (s .tree)) c s", "perform c s = performWith (Prim.Native.Nat._-_ (links (s .tree)) 1) c s"),
     "create-new before kind": ("Operations", "  onlyFile k\n  need (not (f .createNew)) 12\n", "  need (not (f .createNew)) 12\n  onlyFile k\n"),
-    "new parent before taking": ("Operations", "  edits (take old)\n  w ← lookup b (new .before)\n  makeMissing (freshDir t) [] (w .path)\n", "  w ← lookup b (new .before)\n  makeMissing (freshDir t) [] (w .path)\n  edits (take old)\n"),
+    "new parent before taking": ("Operations", "  edits (take old)\n  d ← lookup b (new .before)\n  makeMissing (freshDir t) [] (d .path)\n", "  d ← lookup b (new .before)\n  makeMissing (freshDir t) [] (d .path)\n  edits (take old)\n"),
     "emptiness of the entry": ("Operations", "  replaces k (w .path) (w .kind)\n", "  replaces k q (w .kind)\n"),
     "set times normalised": ("Operations", "  w ← lookup b (names s)\n", "  w ← lookup b (absolute [] s)\n"),
     "write sets changed": ("Tree", "changeMeta (write b t) m = record { mode = m .mode; accessed = m .accessed; changed = m .changed;", "changeMeta (write b t) m = record { mode = m .mode; accessed = m .accessed; changed = t;"),

@@ -30,6 +30,7 @@ pub mod Passing
 pub mod Places
 pub mod PureLookups
 pub mod Reached
+pub mod Recorded
 pub mod Refused
 pub mod Renaming
 pub mod Rewalk
