@@ -206,16 +206,7 @@ def main():
         code = [x for e in expected for x in model.result_code(e)]
         source.append("t%d : answerNumber j%d (freshState %d %d) ≡ %s\nunfolding answerNumber\nt%d = refl\n" % (i, i, most, room, model.packed(code), i))
     source.append("t999999 : answerNumber j0 (freshState 512 32768) ≡ 1000\nunfolding answerNumber\nt999999 = refl\n")
-    out = model.checked("\n".join(source))
-    import re
-    errors = re.findall(r"Check\.antt:\d+:\d+: (.*)", out)
-    bad = set()
-    for e in errors:
-        m = re.match(r"error: `t(\d+)`: ", e)
-        assert m, e
-        bad.add(int(m.group(1)))
-    assert 999999 in bad
-    bad.discard(999999)
+    bad = model.refused(model.checked("\n".join(source)))
     print("by hand: %d cases, %d calls, %d cases differ from the model" % (len(CASES), sum(len(c[3]) for c in CASES), len(bad)))
     os.makedirs("out", exist_ok=True)
     jobs = [(name.replace(" ", "_"), most, room, lines, e) for name, most, room, lines, e in CASES if not any(l.startswith("@") for l in lines)]

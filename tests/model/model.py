@@ -185,16 +185,19 @@ def agree(jobs, expected):
     wrong = wrong[:-1] + str((int(wrong[-1]) + 1) % 10)
     text.append("t999999 : tracedNumber j0 (freshState %d %d) ≡ %s\nunfolding tracedNumber\nt999999 = refl\n" % (jobs[0][1], jobs[0][2], wrong))
     out = checked("\n".join(text))
+    return refused(out)
+
+
+def refused(out):
+    """The indices i of the statements `ti` that the checker refused. The last one, which has to be, is not among them."""
     assert "logic=not-proved" in out, out[-2000:]
-    errors = re.findall(r"Check\.antt:\d+:\d+: (.*)", out)
     failed = set()
-    for e in errors:
+    for e in re.findall(r"Check\.antt:\d+:\d+: (.*)", out):
         m = re.match(r"error: `t(\d+)`: ", e)
         assert m, e
         failed.add(int(m.group(1)))
     assert 999999 in failed, "the wrong number was not refused"
-    failed.discard(999999)
-    return failed
+    return failed - {999999}
 
 
 def state_text(s, most, room):
