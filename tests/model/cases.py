@@ -2,7 +2,7 @@
 """Cases written by hand from 01 and READING-OF-01: each call with the refusal or the answer that these pages say.
 
 cases.py asks the checker whether the model answers so (`refl`), and for every case without short working buffers also runs the
-counted copy of the Rust (with what the driver adds: 2, 3, 4, 6, 14, 15, 16) and compares answers and states with the model's."""
+counted copy of the Rust (with what the driver adds: 2, 3, 4, 6, 14, 15, 16) and compares its answers with these. The states are compared by compare.py."""
 import os
 import subprocess
 import sys
