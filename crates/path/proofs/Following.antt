@@ -9,20 +9,20 @@ use native.Mathlib.Nat.{le-refl}
 use native.Mathlib.Numerals.{add-one}
 use native.Mathlib.Omega.{arith}
 use lib.Dec.{eqb, ltb}
-use lib.ListN.{length, take, drop, getD, length-drop, take-append-drop}
-use lib.Seq.{take-length}
+use lib.ListN.{length, take, drop, getD, take-append-drop}
 use borrow.Author.Count.{below-more}
 use borrow.Author.Tests.{eq-eqb, eqb-true, eqb-false, ltb-true, ltb-false}
 use Rattle.text.specs.Utf8.{Bytes}
 use Rattle.path.specs.Path.{Name, cut, pieces, body}
-use Rattle.path.specs.Backward.{Sifted, kindOf, mk, siftOne, sift, sifted, part}
-use Rattle.path.specs.Answer.{AllNames, Clean, PlainIs}
+use Rattle.path.specs.Backward.{Sifted, kindOf, mk, siftOne, sift, sifted, front, part}
+use Rattle.path.specs.Answer.{AllNames, Clean, EndIs, PieceIs, PlainIs}
 use Rattle.path.specs.declared.plain.Plain.{Plain}
 use Rattle.path.specs.declared.plain.Plain.the-variants.{From}
-use Rattle.path.proofs.Cutting.{first, part-empty, part-cons}
+use Rattle.path.proofs.Cutting.{first, front-part, part-empty, part-cons, part-length, piece-is}
 use Rattle.path.proofs.Dots.{kind-none, kind-other}
 use Rattle.path.proofs.Dropping.{body-pieces}
 use Rattle.path.proofs.Every.{Every}
+use Rattle.path.proofs.Reading.{sift-append, back-gone, read-none, read-gone}
 
 -- a piece that is a name for its first byte
 pub record Named (n : Name) : Type 0 where
@@ -74,32 +74,33 @@ pub or-false : (a b : Bool) → a || b ≡ false → (a ≡ false) × (b ≡ fal
 or-false true b e = (e, let z : true ≡ false = e in cc)
 or-false false b e = (refl, e)
 
--- a byte and the one before it
-pair : (x y : ℕ) → eqb x 47 && (eqb y 47 || eqb y 46) ≡ false → x ≡ 47 → (y ≡ 47 → ⊥) × (y ≡ 46 → ⊥)
-pair x y e q =
-    let t : eqb x 47 ≡ true = eq-eqb x 47 q in
-    let f : eqb y 47 || eqb y 46 ≡ false = rw t at e in
-    let w = or-false (eqb y 47) (eqb y 46) f in
-    (eqb-false y 47 (w .0), eqb-false y 46 (w .1))
+module _ (d : ℕ) where
+  -- a byte and the one behind it
+  pair : (x y : ℕ) → eqb x d && (eqb y d || eqb y 46) ≡ false → x ≡ d → (y ≡ d → ⊥) × (y ≡ 46 → ⊥)
+  pair x y e q =
+      let t : eqb x d ≡ true = eq-eqb x d q in
+      let f : eqb y d || eqb y 46 ≡ false = rw t at e in
+      let w = or-false (eqb y d) (eqb y 46) f in
+      (eqb-false y d (w .0), eqb-false y 46 (w .1))
 
--- a byte more
-pub clean-more : (s : Bytes) (a i : ℕ) (bad : Bool) → (bad ≡ false → Clean s a i)
-    → bad || (eqb (getD s i 0) 47 && (eqb (getD s (i + 1) 0) 47 || eqb (getD s (i + 1) 0) 46)) ≡ false → Clean s a (i + 1)
-clean-more s a i bad w e =
-    let o = or-false bad (eqb (getD s i 0) 47 && (eqb (getD s (i + 1) 0) 47 || eqb (getD s (i + 1) 0) 46)) e in
-    below-more _ i (w (o .0)) (λ _. pair (getD s i 0) (getD s (i + 1) 0) (o .1))
+  -- a byte more
+  pub clean-more : (s : Bytes) (a i : ℕ) (bad : Bool) → (bad ≡ false → Clean d s a i)
+      → bad || (eqb (getD s i 0) d && (eqb (getD s (i + 1) 0) d || eqb (getD s (i + 1) 0) 46)) ≡ false → Clean d s a (i + 1)
+  clean-more s a i bad w e =
+      let o = or-false bad (eqb (getD s i 0) d && (eqb (getD s (i + 1) 0) d || eqb (getD s (i + 1) 0) 46)) e in
+      below-more _ i (w (o .0)) (λ _. pair (getD s i 0) (getD s (i + 1) 0) (o .1))
 
--- two stretches side by side
-pub clean-join : (s : Bytes) (a b e : ℕ) → Clean s a b → Clean s b e → Clean s a e
-clean-join s a b e x y k l h = go (ltb k b) refl
-  where
-    go : (t : Bool) → ltb k b ≡ t → getD s k 0 ≡ 47 → (getD s (k + 1) 0 ≡ 47 → ⊥) × (getD s (k + 1) 0 ≡ 46 → ⊥)
-    go true q = x k (ltb-true k b q) h
-    go false q = y k l (ltb-false k b q)
+  -- two stretches side by side
+  pub clean-join : (s : Bytes) (a b e : ℕ) → Clean d s a b → Clean d s b e → Clean d s a e
+  clean-join s a b e x y k l h = go (ltb k b) refl
+    where
+      go : (t : Bool) → ltb k b ≡ t → getD s k 0 ≡ d → (getD s (k + 1) 0 ≡ d → ⊥) × (getD s (k + 1) 0 ≡ 46 → ⊥)
+      go true q = x k (ltb-true k b q) h
+      go false q = y k l (ltb-false k b q)
 
 module _ (s : Bytes) (e : ℕ) (fits : e ≤ length s) (last : getD s (e - 1) 0 ≡ 47 → ⊥) where
   -- behind each byte of a clean part comes what may
-  clean-follows : (n a : ℕ) → a + suc n ≡ e → Clean s a (e - 1) → Follows (getD s a 0) (part (suc a) e s)
+  clean-follows : (n a : ℕ) → a + suc n ≡ e → Clean 47 s a (e - 1) → Follows (getD s a 0) (part (suc a) e s)
   unfolding Follows
   clean-follows zero a q w =
       let m : e ≡ suc a = omega arith in
@@ -111,19 +112,11 @@ module _ (s : Bytes) (e : ℕ) (fits : e ≤ length s) (last : getD s (e - 1) 0 
       rw (part-cons (suc a) e s (omega arith) fits) (rw add-one at h, clean-follows n (suc a) (omega arith) (λ k l g. w k l (omega arith)))
 
   -- a clean part that neither begins nor ends like a piece that is no name
-  pub clean-names : (a : ℕ) → a < e → (getD s a 0 ≡ 47 → ⊥) → (getD s a 0 ≡ 46 → ⊥) → Clean s a (e - 1) → AllNames (part a e s)
+  pub clean-names : (a : ℕ) → a < e → (getD s a 0 ≡ 47 → ⊥) → (getD s a 0 ≡ 46 → ⊥) → Clean 47 s a (e - 1) → AllNames (part a e s)
   unfolding Follows
   clean-names a l h d w = all-names (part a e s) (rw (part-cons a e s l fits) ((λ q. (h, d)), clean-follows (e - suc a) a (omega arith) w))
 
--- the part of the slice behind a is all that stands there
-pub plain-part : (s : Bytes) (a : ℕ) → part a (length s) s ≡ drop a s
-plain-part s a = let n : length s - a ≡ length (drop a s) = sym (length-drop a s) in rw n (take-length (drop a s))
-
--- ---- the slash in front
-
-pub plain-relative : (s : Bytes) → AllNames (drop 0 s) → PlainIs (From 0) s
-unfolding sifted
-plain-relative s h = (zero-le, h)
+-- ---- what stands beside the names
 
 one-gone : (strike : Bool) (z : Sifted) → siftOne (kindOf strike []) [] z ≡ z
 one-gone strike z = ap (λ (k : ℕ). siftOne k [] z) (kind-none strike [] refl)
@@ -134,29 +127,52 @@ unfolding sifted pieces sift
 sifted-empty strike k [] l = one-gone strike (mk k [])
 sifted-empty strike k (b ∷ s) l = absurd (omega arith)
 
-pub plain-absolute : (s : Bytes) → 0 < length s → getD s 0 0 ≡ 47 → AllNames (drop 1 s) → PlainIs (From 1) s
-unfolding sifted pieces sift
-plain-absolute [] l e h = absurd (omega arith)
-plain-absolute (b ∷ s) l e h = (
-  omega arith,
-  λ strike. ap (λ (t : Bool). sift strike (cut t b (pieces s)) (mk 0 [])) (eq-eqb b 47 e)
-      ∙ one-gone strike (sift strike (pieces s) (mk 0 [])) ∙ h strike,
-)
+-- no slash at the end
+pub end-whole : (s : Bytes) → EndIs s (length s)
+end-whole s = (le-refl (length s), λ strike. read-none strike s 0 .same)
+
+-- a slash at the end: behind it stands an empty piece
+pub end-slash : (s : Bytes) → 0 < length s → getD s (length s - 1) 0 ≡ 47 → EndIs s (length s - 1)
+end-slash s l q =
+    let p : length s - 1 + 1 ≡ length s = omega arith in
+    let n : length s + 1 - 1 ≡ length s = omega arith in (
+      omega arith,
+      λ strike.
+          let piece : PieceIs s (length s) (length s + 1 - 1) = rw n (piece-is s (length s) (length s) (le-refl (length s)) (le-refl (length s)) (rw part-empty tt) (λ _. q)) in
+          let k : kindOf strike (part (length s) (length s + 1 - 1) s) ≡ 0 = rw (n, part-empty (length s) s) (kind-none strike [] refl) in
+          rw p (read-gone strike s 0 (length s + 1) 0 (length s) [] (read-none strike s 0) 0 (back-gone strike s (length s + 1) (length s) (omega arith) piece 0 k) .same),
+    )
+
+-- a slash in front, or none
+module _ (s : Bytes) (e : ℕ) (end : EndIs s e) (strike : Bool) where
+  between : (a : ℕ) → a < e → (0 < a → getD s (a - 1) 0 ≡ 47) → AllNames (part a e s) → sifted strike 0 s ≡ sift strike (front a s) (mk 0 (pieces (part a e s)))
+  between a l f h =
+      end .1 strike ∙ ap (λ (x : List Name). sift strike x (mk 0 [])) (rw add-one (front-part s a e (omega arith) (end .0) f))
+      ∙ sift-append strike (front a s) (pieces (part a e s)) (mk 0 []) ∙ ap (λ (z : Sifted). sift strike (front a s) z) (h strike)
+
+  pub plain-relative : 0 < e → AllNames (part 0 e s) → PlainIs (From 0 e) strike 0 s
+  unfolding front sift
+  plain-relative l h = (zero-le, end .0, between 0 l (λ q. absurd (omega arith)) h)
+
+  pub plain-absolute : 1 < e → getD s 0 0 ≡ 47 → AllNames (part 1 e s) → PlainIs (From 1 e) strike 0 s
+  unfolding front sift pieces
+  plain-absolute l q h = (omega arith, end .0, between 1 l (λ _. q) h ∙ one-gone strike (mk 0 (pieces (part 1 e s))))
 
 -- ---- what is kept of a plain text
 
-module _ (s : Bytes) (a : ℕ) (w : PlainIs (From a) s) where
-  pub plain-kept : (strike : Bool) (k : ℕ) → k ≡ 0 → sifted strike k s ≡ mk 0 (pieces (drop a s))
-  plain-kept strike k e = ap (λ (j : ℕ). sifted strike j s) e ∙ w .1 strike
+module _ (s : Bytes) (a e : ℕ) (strike : Bool) (k : ℕ) (w : PlainIs (From a e) strike k s) where
+  pub plain-body : body (sifted strike k s .kept) ≡ 47 ∷ part a e s
+  plain-body = ap (λ (z : Sifted). body (z .kept)) (w .2) ∙ body-pieces (part a e s)
 
-  pub plain-body : (strike : Bool) (k : ℕ) → k ≡ 0 → body (sifted strike k s .kept) ≡ 47 ∷ drop a s
-  plain-body strike k e = ap (λ (z : Sifted). body (z .kept)) (plain-kept strike k e) ∙ body-pieces (drop a s)
+  pub plain-length : e - a + 1 ≡ length (body (sifted strike k s .kept))
+  plain-length = rw plain-body (omega (arith, part-length a e s (w .1), w .0))
 
-  pub plain-length : (strike : Bool) (k : ℕ) → k ≡ 0 → length s - a + 1 ≡ length (body (sifted strike k s .kept))
-  plain-length strike k e = rw (plain-body strike k e) (omega (arith, length-drop a s, w .0))
+pub plain-told : {r x : Plain} (strike : Bool) (k : ℕ) (s : Bytes) → r ≡ x → PlainIs r strike k s → PlainIs x strike k s
+plain-told strike k s e w = subst (λ (y : Plain). PlainIs y strike k s) e w
 
-pub plain-told : {r x : Plain} (s : Bytes) → r ≡ x → PlainIs r s → PlainIs x s
-plain-told s e w = subst (λ (y : Plain). PlainIs y s) e w
+-- nothing behind the text drops a name
+pub plain-behind : (r : Plain) (strike : Bool) (k : ℕ) (s : Bytes) → k ≡ 0 → PlainIs r strike 0 s → PlainIs r strike k s
+plain-behind r strike k s e w = subst (λ (j : ℕ). PlainIs r strike j s) (sym e) w
 
 -- the text behind its slash, stored where it ends
 pub plain-stored : (out after t u : Bytes) (end at : ℕ) → 47 ∷ t ≡ u → at ≡ end - length u → length u ≤ end

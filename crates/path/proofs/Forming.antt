@@ -2,7 +2,7 @@
 -- Assumes nothing.
 use mathlib.Core.Bool.{Bool, true, false, cond}
 use mathlib.Core.List.{List, [], _++_, append-assoc}
-use mathlib.Core.Path.{_≡_, refl, sym, ap, _∙_, subst}
+use mathlib.Core.Path.{_≡_, sym, ap, _∙_, subst}
 use Prim.Native.Nat.{ℕ, _+_, _-_, _≤_, _<_}
 use native.Mathlib.Omega.{arith}
 use lib.ListN.{length, take, drop, length-append}
@@ -11,13 +11,14 @@ use borrow.Author.Tests.{le-leb, lt-leb}
 use Rattle.text.specs.Utf8.{Bytes}
 use Rattle.moves.specs.Gap.{moved}
 use Rattle.moves.proofs.Laws.{moved-split}
-use Rattle.path.specs.Path.{Name, same, pieces, vanishes, names, keep, norm, normal, from, isAbsolute, absolute, body}
+use Rattle.path.specs.Path.{Name, names, norm, normal, from, isAbsolute, absolute, body}
 use Rattle.path.specs.Backward.{sifted, dropN, Sifted, part}
 use Rattle.path.specs.Answer.{formed, written, Forms}
 use Rattle.path.specs.declared.answer.Formed.{Formed}
 use Rattle.path.specs.declared.answer.Formed.the-variants.{Text, TooLong}
 use Rattle.path.proofs.Dropping.{dropN-nil}
-use Rattle.path.proofs.Reading.{norm-sifted, raw-sifted, body-append}
+use Rattle.path.proofs.Following.{sifted-empty, empty-stored}
+use Rattle.path.proofs.Reading.{norm-sifted, raw-sifted, body-append, body-none}
 
 -- ---- the two answers
 
@@ -83,11 +84,11 @@ module _ (a b out mid after : Bytes) (first last : ℕ) (ea : first ≡ length a
       let n : first + last ≡ length (a ++ b) = omega (arith, length-append a b) in
       forms-text (a ++ b) out after (first + last) (omega arith) n both-stored
 
--- ---- the root, an absolute path, the raw reading
+-- ---- a path alone, an absolute path, the raw reading
 
-pub normal-root : (path : Bytes) → norm (normal []) (names path) ≡ normal path
-unfolding normal names pieces keep norm vanishes same
-normal-root path = refl
+pub normal-kept : (path : Bytes) → body (normal path) ≡ body (sifted true 0 path .kept)
+unfolding dropN
+normal-kept path = ap body (left 0 path)
 
 pub from-root : (dir : List Name) (path : Bytes) → isAbsolute path ≡ true → normal path ≡ absolute dir path
 unfolding absolute from normal
@@ -102,6 +103,15 @@ raw-kept path = sym (ap (λ (z : Sifted). body (z .kept)) (raw-sifted path))
 
 pub forms-one : (t out after : Bytes) (n : ℕ) → n ≡ length t → n ≤ 1024 → after ≡ take (n - length t) out ++ (t ++ drop n out) → Forms t out after (Text n)
 forms-one t out after n e h w = forms-text t out after n (omega arith) e (stored t out after n e w)
+
+pub forms-front : (t out after : Bytes) (n : ℕ) → n ≡ length t → n ≤ 1024 → after ≡ t ++ drop n out → Forms t out after (Text n)
+forms-front t out after n e h w = forms-text t out after n (omega arith) e (w ∙ ap (λ (k : ℕ). t ++ drop k out) e)
+
+-- no text
+pub forms-none : (strike : Bool) (path out : Bytes) → length path ≡ 0 → Forms (body (sifted strike 0 path .kept)) out out (Text 0)
+forms-none strike path out l =
+    let e = ap (λ (z : Sifted). length (body (z .kept))) (sifted-empty strike 0 path l) in
+    forms-one (body (sifted strike 0 path .kept)) out out 0 (body-none ∙ sym e) (omega arith) (empty-stored strike 0 path out 0 l)
 
 -- ---- a link's target in place of the link
 

@@ -46,7 +46,7 @@ module _ (s : Bytes) (a : ℕ) (fits : a ≤ length s) (slash : getD s (a - 1) 0
   run-on b h n = ⊎-elim (λ e. absurd (n (rw e slash))) (λ l. l) (eq-or-lt-of-le h)
 
   -- what is clean from a slash on
-  pub run-clean : (b : ℕ) → b < a → getD s b 0 ≡ 47 → Clean s b (a - 1) → RunIs s a (b + 1)
+  pub run-clean : (b : ℕ) → b < a → getD s b 0 ≡ 47 → Clean 47 s b (a - 1) → RunIs s a (b + 1)
   run-clean b pos q w = rw add-one (⊎-elim none some (eq-or-lt-of-le pos))
     where
       none : suc b ≡ a → RunIs s a (suc b)

@@ -7,7 +7,7 @@ use Prim.Native.Nat.{ℕ, _+_, _-_, _≤_, _<_}
 use lib.Dec.{leb}
 use lib.ListN.{length, drop, getD}
 use Rattle.text.specs.Utf8.{Bytes}
-use Rattle.path.specs.Path.{Name, pieces, normal, absolute, body, lastName}
+use Rattle.path.specs.Path.{Name, pieces, vanishes, normal, absolute, body, lastName}
 use Rattle.path.specs.Backward.{sift, sifted, mk, front, part}
 use Rattle.path.specs.declared.answer.Formed.{Formed}
 use Rattle.path.specs.declared.answer.Formed.the-variants.{Text, TooLong}
@@ -16,6 +16,8 @@ use Rattle.path.specs.declared.answer.Last.{Last}
 use Rattle.path.specs.declared.answer.Last.the-variants.{At, Left}
 use Rattle.path.specs.declared.answer.Place.{Place}
 use Rattle.path.specs.declared.answer.Place.the-variants.{InPath, InCwd, Nowhere}
+use Rattle.path.specs.declared.forward.Next.{Next}
+use Rattle.path.specs.declared.forward.Next.the-variants.{Vanishes, Stays}
 use Rattle.path.specs.declared.plain.Plain.{Plain}
 use Rattle.path.specs.declared.plain.Plain.the-variants.{From, No}
 use Rattle.path.specs.declared.sifting.Back.{Back}
@@ -50,20 +52,25 @@ PlaceIs (InPath a e) path cwd = (a ≤ e) × (e ≤ length path) × (lastName (a
 PlaceIs (InCwd a e) path cwd = (a ≤ e) × (e ≤ length cwd) × (lastName (absolute (normal cwd) path) ≡ part a e cwd)
 PlaceIs Nowhere path cwd = absolute (normal cwd) path ≡ []
 
+-- the pieces are all kept, whether `..` is a name or drops one
+abbrev pub AllNames : Bytes → Type 0
+AllNames s = (strike : Bool) → sift strike (pieces s) (mk 0 []) ≡ mk 0 (pieces s)
+
+-- the text is read like its first e bytes
+abbrev pub EndIs : Bytes → ℕ → Type 0
+EndIs s e = (e ≤ length s) × ((strike : Bool) → sifted strike 0 s ≡ sift strike (front (e + 1) s) (mk 0 []))
+
+-- From: the pieces from a to e are all kept, and nothing else is, where what stands behind the text drops k names
+abbrev pub PlainIs : Plain → Bool → ℕ → Bytes → Type 0
+PlainIs (From a e) strike k s = (a ≤ e) × (e ≤ length s) × (sifted strike k s ≡ mk 0 (pieces (part a e s)))
+PlainIs No strike k s = Unit {0}
+
 -- what a text keeps, where what stands behind it drops k names
 pub record KeptIs (strike : Bool) (s : Bytes) (k : ℕ) (r : Kept) : Type 0 where
   pub skip : r .skip ≡ sifted strike k s .skip
   pub len : r .len ≡ length (body (sifted strike k s .kept))
   pub few : r .skip ≤ k + length s + 1
-
--- the pieces are all kept, whether `..` is a name or drops one
-abbrev pub AllNames : Bytes → Type 0
-AllNames s = (strike : Bool) → sift strike (pieces s) (mk 0 []) ≡ mk 0 (pieces s)
-
--- From: the pieces from there on are all kept, and nothing else is
-abbrev pub PlainIs : Plain → Bytes → Type 0
-PlainIs (From a) s = (a ≤ length s) × ((strike : Bool) → sifted strike 0 s ≡ mk 0 (pieces (drop a s)))
-PlainIs No s = Unit {0}
+  pub plain : PlainIs (r .plain) strike k s
 
 -- At: the last name kept stands from a to e. Left: none is kept, and j names in front of the text are dropped
 abbrev pub LastIs : Last → Bytes → ℕ → Type 0
@@ -77,9 +84,20 @@ pub record PieceIs (s : Bytes) (a e : ℕ) : Type 0 where
   pub one : pieces (part a e s) ≡ part a e s ∷ []
   pub slash : 0 < a → getD s (a - 1) 0 ≡ 47
 
--- no slash from a up to, not including, e has a slash or a dot behind it
-abbrev pub Clean : Bytes → ℕ → ℕ → Type 0
-Clean s a e = (k : ℕ) → k < e → a ≤ k → getD s k 0 ≡ 47 → (getD s (k + 1) 0 ≡ 47 → ⊥) × (getD s (k + 1) 0 ≡ 46 → ⊥)
+-- the piece that begins at a ends at e
+pub record WholeIs (s : Bytes) (a e : ℕ) : Type 0 where
+  pub piece : PieceIs s a e
+  pub fits : e ≤ length s
+  pub stop : e < length s → getD s e 0 ≡ 47
+
+-- Vanishes: the piece that begins at a ends at e and vanishes. Stays: it does not
+abbrev pub NextIs : Next → Bytes → ℕ → Type 0
+NextIs (Vanishes e) s a = WholeIs s a e × (vanishes (part a e s) ≡ true)
+NextIs Stays s a = (e : ℕ) → WholeIs s a e → vanishes (part a e s) ≡ false
+
+-- no byte d from a up to, not including, e has a d or a dot behind it
+abbrev pub Clean : ℕ → Bytes → ℕ → ℕ → Type 0
+Clean d s a e = (k : ℕ) → k < e → a ≤ k → getD s k 0 ≡ d → (getD s (k + 1) 0 ≡ d → ⊥) × (getD s (k + 1) 0 ≡ 46 → ⊥)
 
 -- the pieces from r up to the slash before a are all kept, as those from a on are
 abbrev pub RunIs : Bytes → ℕ → ℕ → Type 0

@@ -4,6 +4,7 @@ ghost use Prim.Native.Nat.{_≤_};
 ghost use lib.ListN.{length};
 ghost use Rattle.path.specs.Answer.{Forms};
 ghost use Rattle.path.specs.Path.{names, norm, normal, absolute, isAbsolute, body};
+use crate::alone::form;
 use crate::answer::Formed;
 use crate::sifting::measure;
 use crate::sifting::put_kept;
@@ -34,8 +35,10 @@ fn join(out: &mut [u8], dir: &[u8], path: &[u8]) -> Formed
         return Formed::TooLong;
     }
     let len = first + last;
-    put_kept(out, len, path, true, 0);
-    put_kept(out, first, dir, true, p.skip);
+    let path_plain = p.plain;
+    let dir_plain = d.plain;
+    put_kept(out, len, path, true, 0, path_plain);
+    put_kept(out, first, dir, true, p.skip, dir_plain);
     Formed::Text(len)
 }
 
@@ -43,7 +46,7 @@ pub fn normalize_path(out: &mut [u8], path: &[u8]) -> Formed
     requires { ⌜ 1024 ≤ length (now out) ⌝ }
     ensures { λ r. ⌜ Forms (body (normal (now (path .entry)))) (now (out .entry)) (now (out .exit)) r ⌝ }
 {
-    join(out, &path[0..0], path)
+    form(out, path, true)
 }
 
 pub fn to_absolute_path(out: &mut [u8], cwd: &[u8], path: &[u8]) -> Formed
@@ -61,11 +64,5 @@ pub fn raw_path(out: &mut [u8], path: &[u8]) -> Formed
     requires { ⌜ 1024 ≤ length (now out) ⌝ }
     ensures { λ r. ⌜ Forms (body (names (now (path .entry)))) (now (out .entry)) (now (out .exit)) r ⌝ }
 {
-    let p = measure(path, false, 0);
-    let kept = p.len;
-    if 1024 < kept {
-        return Formed::TooLong;
-    }
-    put_kept(out, kept, path, false, 0);
-    Formed::Text(kept)
+    form(out, path, false)
 }

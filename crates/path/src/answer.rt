@@ -1,4 +1,5 @@
 // What the functions of this crate answer.
+use crate::plain::Plain;
 
 // A path of at most 1,024 bytes stands in the buffer: its length. Or refusal 6.
 pub enum Formed {
@@ -12,10 +13,12 @@ pub enum Last {
     Left(usize),
 }
 
-// What a text keeps: the length of the kept names, a slash before each, and how many names before the text are dropped.
+// What a text keeps: the length of the kept names, a slash before each, how many names before the text are dropped, and
+// where it is plain.
 pub struct Kept {
     pub len: usize,
     pub skip: usize,
+    pub plain: Plain,
 }
 
 // Where the last name of a path once absolute stands: from the first place to the second of the path or of the current

@@ -41,6 +41,7 @@ pub fn follow(out: &mut [u8], dir: usize, rest: usize, len: usize, target: &[u8]
         return Formed::TooLong;
     }
     moves::shift(out, rest, at, behind);
-    put_kept(out, at, target, true, 0);
+    let plain = m.plain;
+    put_kept(out, at, target, true, 0, plain);
     Formed::Text(at + behind)
 }

@@ -1,23 +1,37 @@
 // A text whose pieces are all names, as most are: it needs no reading from the end.
 ghost use mathlib.Core.Path.{_≡_};
-ghost use mathlib.Core.Bool.{true};
-ghost use Prim.Native.Nat.{_≤_};
-ghost use lib.ListN.{length, drop};
-ghost use Rattle.path.specs.Answer.{AllNames, PlainIs};
+ghost use mathlib.Core.Bool.{Bool, true};
+ghost use Prim.Native.Nat.{_≤_, _<_};
+ghost use lib.ListN.{length};
+ghost use Rattle.path.specs.Answer.{AllNames, EndIs, PlainIs};
+ghost use Rattle.path.specs.Backward.{part};
 use crate::runs::clean;
 
-// From: behind the slash in front, if there is one, every piece is a name. No: perhaps not.
+// From: the pieces between these two places are all names, and beside them stand at most a slash in front and one at the
+// end. No: perhaps not.
 pub enum Plain {
-    From(usize),
+    From(usize, usize),
     No,
 }
 
-// Whether every piece of s[from..] is a name that does not begin with a dot.
-fn all_names(s: &[u8], from: usize) -> bool
-    requires { ⌜ from ≤ length (now s) ⌝ }
-    ensures { λ r. ⌜ (r ≡ true → AllNames (drop from (now (s .entry)))) ⌝ }
+// Where the text ends, but for one slash at its end.
+fn text_end(s: &[u8]) -> usize
+    requires { ⌜ 0 < length (now s) ⌝ }
+    ensures { λ r. ⌜ EndIs (now (s .entry)) r ⌝ }
 {
-    if s.len() == from {
+    let e = s.len() - 1;
+    if s[e] == 47 {
+        return e;
+    }
+    s.len()
+}
+
+// Whether every piece of s[from..end] is a name that does not begin with a dot.
+fn all_names(s: &[u8], from: usize, end: usize) -> bool
+    requires { ⌜ end ≤ length (now s) ⌝ }
+    ensures { λ r. ⌜ (r ≡ true → (from < end) × AllNames (part from end (now (s .entry)))) ⌝ }
+{
+    if end <= from {
         return false;
     }
     if s[from] == 46 {
@@ -26,27 +40,28 @@ fn all_names(s: &[u8], from: usize) -> bool
     if s[from] == 47 {
         return false;
     }
-    let last = s.len() - 1;
+    let last = end - 1;
     if s[last] == 47 {
         return false;
     }
-    clean(s, from, last)
+    clean(s, 47, from, last)
 }
 
 pub fn find_plain(s: &[u8]) -> Plain
-    ensures { λ r. ⌜ PlainIs r (now (s .entry)) ⌝ }
+    ensures { λ r. ⌜ ((strike : Bool) → PlainIs r strike 0 (now (s .entry))) ⌝ }
 {
     if s.len() == 0 {
         return Plain::No;
     }
+    let end = text_end(s);
     if s[0] == 47 {
-        if all_names(s, 1) {
-            return Plain::From(1);
+        if all_names(s, 1, end) {
+            return Plain::From(1, end);
         }
         return Plain::No;
     }
-    if all_names(s, 0) {
-        return Plain::From(0);
+    if all_names(s, 0, end) {
+        return Plain::From(0, end);
     }
     Plain::No
 }

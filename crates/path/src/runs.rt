@@ -5,18 +5,18 @@ ghost use Prim.Native.Nat.{_-_, _≤_, _<_};
 ghost use lib.ListN.{length, getD};
 ghost use Rattle.path.specs.Answer.{Clean, RunIs};
 
-// Whether no slash of s[at..end] has a slash or a dot behind it. One test for each byte and the one behind it, and no way
-// out of the loop, so that the compiler tests many at a time.
-pub fn clean(s: &[u8], at: usize, end: usize) -> bool
+// Whether no byte d of s[at..end] has a d or a dot behind it. One test for each byte and the one behind it, and no way out
+// of the loop, so that the compiler tests many at a time.
+pub fn clean(s: &[u8], d: u8, at: usize, end: usize) -> bool
     requires { ⌜ (at ≤ end) × (end < length (now s)) ⌝ }
-    ensures { λ r. ⌜ (r ≡ true → Clean (now (s .entry)) at end) ⌝ }
+    ensures { λ r. ⌜ (r ≡ true → Clean d (now (s .entry)) at end) ⌝ }
 {
     let mut bad = false;
     let mut i = at;
     while i < end {
         let x = s[i];
         let y = s[i + 1];
-        bad = bad | ((x == 47) & ((y == 47) | (y == 46)));
+        bad = bad | ((x == d) & ((y == d) | (y == 46)));
         i += 1;
     }
     !bad
@@ -25,11 +25,11 @@ pub fn clean(s: &[u8], at: usize, end: usize) -> bool
 // How far the text in front of e is clean, in steps of 16 bytes, the width of a machine register.
 fn clean_from(s: &[u8], e: usize) -> usize
     requires { ⌜ e < length (now s) ⌝ }
-    ensures { λ r. ⌜ (r ≤ e) × Clean (now (s .entry)) r e ⌝ }
+    ensures { λ r. ⌜ (r ≤ e) × Clean 47 (now (s .entry)) r e ⌝ }
 {
     let mut i = e;
     while i >= 16 {
-        if !clean(s, i - 16, i) {
+        if !clean(s, 47, i - 16, i) {
             return i;
         }
         i -= 16;

@@ -3,7 +3,7 @@ ghost use mathlib.Core.Path.{_≡_};
 ghost use mathlib.Core.List.{_++_};
 ghost use Prim.Native.Nat.{_+_, _-_, _≤_, _<_};
 ghost use lib.ListN.{length, take, drop};
-ghost use Rattle.path.specs.Answer.{KeptIs, LastIs, BackIs};
+ghost use Rattle.path.specs.Answer.{KeptIs, LastIs, BackIs, PlainIs};
 ghost use Rattle.path.specs.Backward.{sifted, dropN};
 ghost use Rattle.path.specs.Path.{body, names};
 use crate::answer::Kept;
@@ -44,7 +44,7 @@ fn read_back(s: &[u8], rest: usize, strike: bool, skip: usize) -> Back
 }
 
 // How much of the text is kept, where what stands behind it drops `behind` names.
-fn measure_back(s: &[u8], strike: bool, behind: usize) -> Kept
+pub fn measure_back(s: &[u8], strike: bool, behind: usize) -> Kept
     requires { ⌜ behind ≤ 9223372036854775808 ⌝ }
     ensures { λ r. ⌜ KeptIs strike (now (s .entry)) behind r ⌝ }
 {
@@ -64,11 +64,15 @@ fn measure_back(s: &[u8], strike: bool, behind: usize) -> Kept
             }
         }
     }
-    Kept { len, skip }
+    Kept {
+        len,
+        skip,
+        plain: Plain::No,
+    }
 }
 
 // What the text keeps, stored in front of `end`.
-fn put_back(out: &mut [u8], end: usize, s: &[u8], strike: bool, behind: usize)
+pub fn put_back(out: &mut [u8], end: usize, s: &[u8], strike: bool, behind: usize)
     requires { ⌜ (behind ≤ 9223372036854775808) × (end ≤ length (now out)) × (length (body (sifted strike behind (now s) .kept)) ≤ end) ⌝ }
     ensures { λ _. ⌜ now (out .exit) ≡ take (end - length (body (sifted strike behind (now (s .entry)) .kept))) (now (out .entry)) ++ (body (sifted strike behind (now (s .entry)) .kept) ++ drop end (now (out .entry))) ⌝ }
 {
@@ -91,7 +95,7 @@ fn put_back(out: &mut [u8], end: usize, s: &[u8], strike: bool, behind: usize)
     }
 }
 
-// The same as `measure_back`, at once where there is no text or every piece is a name.
+// The same as `measure_back`, at once where there is no text or it is plain.
 pub fn measure(s: &[u8], strike: bool, behind: usize) -> Kept
     requires { ⌜ behind ≤ 9223372036854775808 ⌝ }
     ensures { λ r. ⌜ KeptIs strike (now (s .entry)) behind r ⌝ }
@@ -100,33 +104,33 @@ pub fn measure(s: &[u8], strike: bool, behind: usize) -> Kept
         return Kept {
             len: 0,
             skip: behind,
+            plain: Plain::No,
         };
     }
     if behind == 0 {
-        if let Plain::From(a) = find_plain(s) {
+        if let Plain::From(a, e) = find_plain(s) {
             return Kept {
-                len: s.len() - a + 1,
+                len: e - a + 1,
                 skip: 0,
+                plain: Plain::From(a, e),
             };
         }
     }
     measure_back(s, strike, behind)
 }
 
-// The same as `put_back`, at once where there is no text or every piece is a name.
-pub fn put_kept(out: &mut [u8], end: usize, s: &[u8], strike: bool, behind: usize)
-    requires { ⌜ (behind ≤ 9223372036854775808) × (end ≤ length (now out)) × (length (body (sifted strike behind (now s) .kept)) ≤ end) ⌝ }
+// The same as `put_back`, at once where there is no text or it is plain.
+pub fn put_kept(out: &mut [u8], end: usize, s: &[u8], strike: bool, behind: usize, plain: Plain)
+    requires { ⌜ PlainIs plain strike behind (now s) × (behind ≤ 9223372036854775808) × (end ≤ length (now out)) × (length (body (sifted strike behind (now s) .kept)) ≤ end) ⌝ }
     ensures { λ _. ⌜ now (out .exit) ≡ take (end - length (body (sifted strike behind (now (s .entry)) .kept))) (now (out .entry)) ++ (body (sifted strike behind (now (s .entry)) .kept) ++ drop end (now (out .entry))) ⌝ }
 {
     if s.len() == 0 {
         return;
     }
-    if behind == 0 {
-        if let Plain::From(a) = find_plain(s) {
-            let at = end - (s.len() - a + 1);
-            put_name(out, at, &s[a..]);
-            return;
-        }
+    if let Plain::From(a, e) = plain {
+        let at = end - (e - a + 1);
+        put_name(out, at, &s[a..e]);
+        return;
     }
     put_back(out, end, s, strike, behind)
 }

@@ -48,8 +48,8 @@ shift-requires c κs = search needs
 put-kept-requires : tie.Need-put-kept-requires
 put-kept-requires c κs = search needs
 
-add-t13 : tie.Need-add-t13
-add-t13 c = search needs
+add-t14 : tie.Need-add-t14
+add-t14 c = search needs
 
 same-length-3 : tie.Need-same-length-3
 same-length-3 c = search needs
@@ -76,6 +76,6 @@ follow-spec =
     returns-2
     shift-requires
     put-kept-requires
-    add-t13
+    add-t14
     same-length-3
     returns-3)

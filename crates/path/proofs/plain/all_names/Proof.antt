@@ -1,8 +1,6 @@
 -- `plain::all_names` meets its contract: a clean text that begins and ends like names has only names.
-use lib.ListN.{length}
-use native.Mathlib.Nat.{le-refl}
 use native.Mathlib.Omega.{arith}
-use Rattle.path.proofs.Following.{clean-names, plain-part, never}
+use Rattle.path.proofs.Following.{clean-names, never}
 use borrow.Author.Needs.{needs}
 use Rattle.path.proofs.plain.all_names.Statement.{statement}
 use Rattle.path.proofs.plain.all_names.Tie as tie
@@ -35,8 +33,9 @@ clean-requires : tie.Need-clean-requires
 clean-requires c κs = search needs
 
 returns-5 : tie.Need-returns-5
-returns-5 c = λ e. let a = c .before .before .before .before .before .before .before .before .before .args in let s = a .s .now in
-    rw (plain-part s (a .from)) at (clean-names s (length s) (le-refl (length s)) (c .before .if4 .left) (a .from) (omega arith) (c .before .before .before .if3 .left) (c .before .before .before .before .before .if2 .left) (c .clean .ensures e))
+returns-5 c = λ e. let f = c .before .before .before .before .before .before .before .before .before in let a = f .args in
+    let l = c .before .before .before .before .before .before .before .if1 .left in
+    (omega (arith, l), clean-names (a .s .now) (a .end) (f .pre) (c .before .if4 .left) (a .from) (omega (arith, l)) (c .before .before .before .if3 .left) (c .before .before .before .before .before .if2 .left) (c .clean .ensures e))
 
 pub all-names-spec : {M : Type 1} → statement M
 all-names-spec =

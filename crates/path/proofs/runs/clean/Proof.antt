@@ -11,10 +11,10 @@ use Rattle.path.proofs.runs.clean.Statement.{statement}
 use Rattle.path.proofs.runs.clean.Tie as tie
 
 abbrev Inv-loop : tie.InvT-loop
-Inv-loop s at end bad₀ i₀ bad i = (at ≤ i) × (i ≤ end) × (bad ≡ false → Clean s at i)
+Inv-loop s d at end bad₀ i₀ bad i = (at ≤ i) × (i ≤ end) × (bad ≡ false → Clean d s at i)
 
 abbrev μ-loop : tie.MeasureT-loop
-μ-loop s at end bad₀ i₀ bad i = end - i
+μ-loop s d at end bad₀ i₀ bad i = end - i
 
 loop-holds : tie.Need-loop-holds Inv-loop μ-loop
 loop-holds c = (omega arith, omega arith, λ _ k l h _. absurd (omega arith))
@@ -35,7 +35,7 @@ loop-less : tie.Need-loop-less Inv-loop μ-loop
 loop-less c = search needs
 
 loop-again : tie.Need-loop-again Inv-loop μ-loop
-loop-again c = let l = c .before .before .before .loop in let a = c .before .before .before .before .args in (omega arith, omega arith, clean-more (a .s .now) (a .at) (l .i) (l .bad) (l .inv .2))
+loop-again c = let l = c .before .before .before .loop in let a = c .before .before .before .before .args in (omega arith, omega arith, clean-more (a .d) (a .s .now) (a .at) (l .i) (l .bad) (l .inv .2))
 
 returns : tie.Need-returns Inv-loop μ-loop
 returns c = λ e. let l = c .before .loop in let z : l .i ≡ c .before .before .args .end = omega arith in rw z at (l .inv .2 (not-true _ e))

@@ -9,7 +9,7 @@ use Rattle.path.proofs.runs.clean_from.Statement.{statement}
 use Rattle.path.proofs.runs.clean_from.Tie as tie
 
 abbrev Inv-loop : tie.InvT-loop
-Inv-loop s e i₀ i = (i ≤ e) × Clean s i e
+Inv-loop s e i₀ i = (i ≤ e) × Clean 47 s i e
 
 abbrev μ-loop : tie.MeasureT-loop
 μ-loop s e i₀ i = i
@@ -27,7 +27,7 @@ loop-less : tie.Need-loop-less Inv-loop μ-loop
 loop-less c = search needs
 
 loop-again : tie.Need-loop-again Inv-loop μ-loop
-loop-again c = let l = c .before .before .before .loop in let a = c .before .before .before .before .before .args in (omega arith, clean-join (a .s .now) _ (l .i) (a .e) (c .before .clean .ensures (not-false _ (c .if1 .left))) (l .inv .1))
+loop-again c = let l = c .before .before .before .loop in let a = c .before .before .before .before .before .args in (omega arith, clean-join 47 (a .s .now) _ (l .i) (a .e) (c .before .clean .ensures (not-false _ (c .if1 .left))) (l .inv .1))
 
 returns-2 : tie.Need-returns-2 Inv-loop μ-loop
 returns-2 c = search needs

@@ -8,7 +8,7 @@ use Rattle.path.proofs.runs.run_start.Statement.{statement}
 use Rattle.path.proofs.runs.run_start.Tie as tie
 
 abbrev Inv-loop : tie.InvT-loop
-Inv-loop s a b₀ b = (b ≤ a - 1) × Clean s b (a - 1)
+Inv-loop s a b₀ b = (b ≤ a - 1) × Clean 47 s b (a - 1)
 
 abbrev μ-loop : tie.MeasureT-loop
 μ-loop s a b₀ b = a - b

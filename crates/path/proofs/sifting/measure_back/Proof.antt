@@ -86,6 +86,7 @@ returns c = let l = c .before .loop in
       skip = sym (ap (λ (x : Sifted). x .skip) e);
       len = l .inv .2 ∙ sym (ap (λ (x : Sifted). length (body (x .kept))) e);
       few = omega (arith, r .few);
+      plain = tt;
     }
 
 pub measure-back-spec : {M : Type 1} → statement M
