@@ -16,12 +16,12 @@ use Rattle.model.proofs.Entries.{clash, some-inj, name-dec}
 
 -- ---- the order of names
 
-data Sides (a b : ℕ) : Type 0 where
+pub data Sides (a b : ℕ) : Type 0 where
   less : a < b → Sides a b
   equal : a ≡ b → Sides a b
   more : b < a → Sides a b
 
-sides : (a b : ℕ) → Sides a b
+pub sides : (a b : ℕ) → Sides a b
 sides a b = go (ltb a b) refl (ltb b a) refl
   where
     go : (x : Bool) → ltb a b ≡ x → (y : Bool) → ltb b a ≡ y → Sides a b
@@ -29,15 +29,15 @@ sides a b = go (ltb a b) refl (ltb b a) refl
     go false e true k = more (ltb-true b a k)
     go false e false k = equal (omega (arith, ltb-false a b e, ltb-false b a k))
 
-cons-less : (a b : ℕ) (s t : Bytes) → a < b → before (a ∷ s) (b ∷ t) ≡ true
+pub cons-less : (a b : ℕ) (s t : Bytes) → a < b → before (a ∷ s) (b ∷ t) ≡ true
 unfolding before
 cons-less a b s t h = rw (lt-ltb a b h)
 
-cons-more : (a b : ℕ) (s t : Bytes) → b < a → before (a ∷ s) (b ∷ t) ≡ false
+pub cons-more : (a b : ℕ) (s t : Bytes) → b < a → before (a ∷ s) (b ∷ t) ≡ false
 unfolding before
 cons-more a b s t h = rw (le-ltb a b (omega arith), ne-eqb a b (λ e. omega arith))
 
-cons-equal : (a b : ℕ) (s t : Bytes) → a ≡ b → before (a ∷ s) (b ∷ t) ≡ before s t
+pub cons-equal : (a b : ℕ) (s t : Bytes) → a ≡ b → before (a ∷ s) (b ∷ t) ≡ before s t
 unfolding before
 cons-equal a b s t h = rw (le-ltb a b (omega arith), eq-eqb a b h)
 
@@ -54,7 +54,7 @@ one-way (a ∷ s) (b ∷ t) n = go (sides a b) (one-way s t)
     go (equal h) ih = cons-equal a b s t h ∙ ih (λ e. n (let z : a ∷ s ≡ b ∷ t = cc in z)) ∙ ap not (sym (cons-equal b a t s (sym h)))
     go (more h) ih = cons-more a b s t h ∙ ap not (sym (cons-less b a t s h))
 
-joins : (x y z : Bytes) → before x y ≡ true → before y z ≡ true → before x z ≡ true
+pub joins : (x y z : Bytes) → before x y ≡ true → before y z ≡ true → before x z ≡ true
 unfolding before
 joins [] [] z h k = absurd (false≢true h)
 joins [] (b ∷ t) [] h k = absurd (false≢true k)

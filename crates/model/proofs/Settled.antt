@@ -124,7 +124,7 @@ settle-obeys s o (done r w) h = go (leb (entriesUsed (stateOf s w)) (s .most)) r
 
 -- ---- lengths
 
-contents-file : (fs : Files) (i : ℕ) (f : File) → fileOf fs i ≡ some f → length (f .bytes) ≤ contents fs
+pub contents-file : (fs : Files) (i : ℕ) (f : File) → fileOf fs i ≡ some f → length (f .bytes) ≤ contents fs
 unfolding fileOf contents
 contents-file [] i f e = clash none f refl e
 contents-file (g ∷ fs) i f e = go (eqb (g .0) i) e (contents-file fs i f)

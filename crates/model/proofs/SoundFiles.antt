@@ -44,7 +44,7 @@ five-whole true false c d e v w x y z = absurd w
 five-whole true true false d e v w x y z = absurd x
 five-whole true true true false e v w x y z = absurd y
 
-meta-parts : (m : Meta) → T (metaOk m) → MetaFits m
+pub meta-parts : (m : Meta) → T (metaOk m) → MetaFits m
 unfolding metaOk
 meta-parts m h =
     let k = five-parts (ltb (m .mode) (2 ^ 32)) (timeOk (m .accessed)) (timeOk (m .changed)) (timeOk (m .created)) (timeOk (m .modified)) h in

@@ -55,18 +55,18 @@ module _ (w : World) (p : Path) where
 
 -- ---- bytes cut or filled up with zeros
 
-prefix-bytes : (k : ℕ) (d : Bytes) → T (bytesOk d) → T (bytesOk (take k d))
+pub prefix-bytes : (k : ℕ) (d : Bytes) → T (bytesOk d) → T (bytesOk (take k d))
 unfolding bytesOk
 prefix-bytes zero d h = tt
 prefix-bytes (suc k) [] h = tt
 prefix-bytes (suc k) (b ∷ d) h = and-both (ltb b 256) (bytesOk (take k d)) (and-left (ltb b 256) (bytesOk d) h) (prefix-bytes k d (and-right (ltb b 256) (bytesOk d) h))
 
-joined-bytes : (d e : Bytes) → T (bytesOk d) → T (bytesOk e) → T (bytesOk (d ++ e))
+pub joined-bytes : (d e : Bytes) → T (bytesOk d) → T (bytesOk e) → T (bytesOk (d ++ e))
 unfolding bytesOk
 joined-bytes [] e h k = k
 joined-bytes (b ∷ d) e h k = and-both (ltb b 256) (bytesOk (d ++ e)) (and-left (ltb b 256) (bytesOk d) h) (joined-bytes d e (and-right (ltb b 256) (bytesOk d) h) k)
 
-zero-bytes : (k : ℕ) → T (bytesOk (replicate k 0))
+pub zero-bytes : (k : ℕ) → T (bytesOk (replicate k 0))
 unfolding bytesOk
 zero-bytes zero = tt
 zero-bytes (suc k) = zero-bytes k

@@ -24,7 +24,7 @@ pub record NameFits (n : Name) : Type 0 where
   pub short : Short n
   pub text : T (text n)
 
-name-parts : (n : Name) → T (nameOk n) → NameFits n
+pub name-parts : (n : Name) → T (nameOk n) → NameFits n
 unfolding nameOk
 name-parts n h =
     let r = and-right (proper n) (leb (length n) 255 && text n) h in
@@ -38,7 +38,7 @@ name-whole : (n : Name) → T (proper n) → Short n → T (text n) → T (nameO
 unfolding nameOk
 name-whole n p s t = and-both (proper n) (leb (length n) 255 && text n) p (and-both (leb (length n) 255) (text n) (le→leb (length n) 255 s) t)
 
-names-parts : (p : Path) → T (namesOk p) → Every NameFits p
+pub names-parts : (p : Path) → T (namesOk p) → Every NameFits p
 unfolding namesOk
 names-parts [] h = tt
 names-parts (n ∷ p) h = (name-parts n (and-left (nameOk n) (namesOk p) h), names-parts p (and-right (nameOk n) (namesOk p) h))
@@ -84,7 +84,7 @@ pub path-names : (p : Path) → T (pathOk p) → T (namesOk p)
 unfolding pathOk
 path-names p h = and-left (namesOk p) (pathFits p) h
 
-path-fits : (p : Path) → T (pathOk p) → T (pathFits p)
+pub path-fits : (p : Path) → T (pathOk p) → T (pathFits p)
 unfolding pathOk
 path-fits p h = and-right (namesOk p) (pathFits p) h
 

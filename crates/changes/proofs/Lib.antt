@@ -1,0 +1,4 @@
+pub mod Altering
+pub mod Timing
+pub mod Metadata
+pub mod Putting

@@ -1,0 +1,12 @@
+pub mod Carries
+pub mod Counted
+pub mod Fills
+pub mod Growing
+pub mod Grows
+pub mod Inserts
+pub mod Moves
+pub mod Places
+pub mod Renames
+pub mod Rooting
+pub mod Shrinking
+pub mod Vacant

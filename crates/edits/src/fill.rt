@@ -1,0 +1,50 @@
+// A free slot is filled.
+ghost use mathlib.Core.Path.{_≡_};
+ghost use Prim.Native.Nat.{_+_, _*_, _<_, _≤_};
+ghost use lib.ListN.{length, getD};
+ghost use Rattle.layout.specs.Slots.{total};
+ghost use Rattle.slots.specs.Free.{freeFrom};
+ghost use Rattle.slots.specs.declared.Slot.the-variants.{Full};
+ghost use Rattle.edits.specs.Filling.{timed, Filled};
+use slots::Slot;
+
+// A new entry has one time for all four.
+fn put_times(times: &mut [i64], s: usize, t: i64)
+    requires { ⌜ (s < 4128) × (4 * s + 4 ≤ length (now times)) ⌝ }
+    ensures { λ _. ⌜ now (times .exit) ≡ timed (now (times .entry)) s t ⌝ }
+{
+    let i = 4 * s;
+    times[i] = t;
+    times[i + 1] = t;
+    times[i + 2] = t;
+    times[i + 3] = t;
+}
+
+// The lowest free slot, where there is one.
+pub fn vacant_slot(heads: &[u64]) -> usize
+    requires { ⌜ (freeFrom (now heads) 0 ≡ Full → ⊥) ⌝ }
+    ensures { λ r. ⌜ (r < length (now (heads .entry))) × (getD (now (heads .entry)) r 0 ≡ 0) ⌝ }
+{
+    match slots::free_slot(heads) {
+        Slot::At(s) => s,
+        Slot::Full => 0,
+    }
+}
+
+pub fn fill_slot(
+    heads: &mut [u64],
+    times: &mut [i64],
+    bytes: &mut [u8],
+    s: usize,
+    kind: u64,
+    mode: u32,
+    t: i64,
+    text: &[u8],
+)
+    requires { ⌜ (s < length (now heads)) × (length (now heads) ≤ 4128) × (getD (now heads) s 0 ≡ 0) × (4 * s + 4 ≤ length (now times)) × (kind < 4) × (length (now text) ≤ 1048576) × (total (now heads) + length (now text) ≤ length (now bytes)) ⌝ }
+    ensures { λ _. ⌜ Filled (now (heads .entry)) (now (times .entry)) (now (bytes .entry)) (now (heads .exit)) (now (times .exit)) (now (bytes .exit)) s kind mode t (now (text .entry)) ⌝ }
+{
+    heads[s] = layout::head_word(0, kind, mode);
+    put_times(times, s, t);
+    slots::write(heads, bytes, s, text);
+}

@@ -1,0 +1,4 @@
+pub mod Looking
+pub mod Walking
+pub mod Joining
+pub mod Alike

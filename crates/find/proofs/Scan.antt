@@ -1,0 +1,70 @@
+-- The scan for a name, record by record: a record that is not deeper than the directory ends it, a deeper one than an entry is
+-- passed, and an entry is compared.
+-- Assumes nothing.
+use mathlib.Core.Path.{_≡_, sym}
+use mathlib.Core.List.{List}
+use Prim.Native.Nat.{ℕ, suc, _+_, _≤_, _<_}
+use native.Mathlib.Omega.{arith}
+use lib.ListN.{length, take, drop, getD}
+use lib.Seq.{drop-drop, take-take}
+use borrow.Author.Tests.{le-leb, lt-leb, eq-eqb, ne-eqb}
+use Rattle.text.specs.Utf8.{Bytes}
+use Rattle.layout.specs.Fields.{depthOf, nlenOf}
+use Rattle.layout.specs.Rows.{rows, nameTotal}
+use Rattle.order.specs.Order.{orderOf}
+use Rattle.order.specs.declared.Order.the-variants.{Less, Same, More}
+use Rattle.find.specs.Finds.{findIn}
+use Rattle.find.specs.declared.Place.{Place}
+use Rattle.find.specs.declared.Place.the-variants.{Found, Missing}
+use Rattle.find.proofs.Reading.{from, from-at, from-end, rows-drop, names-at, names-split, name-length}
+
+-- the scan, from record j and offset o on
+abbrev pub scan : List ℕ → Bytes → ℕ → ℕ → Bytes → ℕ → ℕ → Place
+scan ws bs n d x j o = findIn d x (rows (from ws n j) (drop o bs)) j o
+
+-- what the scan starts with
+pub record Start (ws : List ℕ) (bs : Bytes) (n d : ℕ) (x : Bytes) (j o : ℕ) : Type 0 where
+  pub room : o + nameTotal (from ws n j) ≤ length bs
+  pub same : findIn d x (drop j (rows (take n ws) bs)) j o ≡ scan ws bs n d x j o
+
+pub scan-start : (ws : List ℕ) (bs : Bytes) (n d : ℕ) (x : Bytes) (j o : ℕ) → j ≤ n → o ≡ nameTotal (take j ws) → nameTotal (take n ws) ≤ length bs
+    → Start ws bs n d x j o
+scan-start ws bs n d x j o l e h =
+    let t : take j (take n ws) ≡ take j ws = take-take j n ws l in
+    let a : nameTotal (take j ws) ≡ o = sym e in
+    record { room = omega (arith, e, h, rw t at (names-split j (take n ws))); same = rw (rows-drop j (take n ws) bs, t, a) }
+
+pub scan-end : (ws : List ℕ) (bs : Bytes) (n d : ℕ) (x : Bytes) (j o : ℕ) → n ≤ length ws → n ≤ j → scan ws bs n d x j o ≡ Missing j o
+unfolding findIn rows
+scan-end ws bs n d x j o h l = rw (from-end ws n j h l)
+
+-- record j has its name within the bytes, and so have those behind it
+pub scan-room : (ws : List ℕ) (bs : Bytes) (n j o : ℕ) → n ≤ length ws → j < n → o + nameTotal (from ws n j) ≤ length bs
+    → o + nlenOf (getD ws j 0) + nameTotal (from ws n (suc j)) ≤ length bs
+scan-room ws bs n j o h l k = omega (arith, names-at ws n j h l, k)
+
+module _ (ws : List ℕ) (bs : Bytes) (n d : ℕ) (x : Bytes) (j o : ℕ) (h : n ≤ length ws) (l : j < n) where
+  pub scan-out : depthOf (getD ws j 0) ≤ d → scan ws bs n d x j o ≡ Missing j o
+  unfolding findIn rows
+  scan-out k = rw (from-at ws n j h l, le-leb (depthOf (getD ws j 0)) d k)
+
+  module _ (r : o + nameTotal (from ws n j) ≤ length bs) where
+    name-at : length (take (nlenOf (getD ws j 0)) (drop o bs)) ≡ nlenOf (getD ws j 0)
+    name-at = name-length bs o (nlenOf (getD ws j 0)) (omega (arith, scan-room ws bs n j o h l r))
+
+    pub scan-deeper : d < depthOf (getD ws j 0) → (depthOf (getD ws j 0) ≡ suc d → ⊥) → scan ws bs n d x j o ≡ scan ws bs n d x (suc j) (o + nlenOf (getD ws j 0))
+    unfolding findIn rows
+    scan-deeper k m = rw (from-at ws n j h l, lt-leb (depthOf (getD ws j 0)) d k, ne-eqb (depthOf (getD ws j 0)) (suc d) m, name-at, drop-drop)
+
+    pub scan-less : depthOf (getD ws j 0) ≡ suc d → orderOf (take (nlenOf (getD ws j 0)) (drop o bs)) x ≡ Less
+        → scan ws bs n d x j o ≡ scan ws bs n d x (suc j) (o + nlenOf (getD ws j 0))
+    unfolding findIn rows
+    scan-less k m = rw (from-at ws n j h l, lt-leb (depthOf (getD ws j 0)) d (omega arith), eq-eqb (depthOf (getD ws j 0)) (suc d) k, m, name-at, drop-drop)
+
+  pub scan-same : depthOf (getD ws j 0) ≡ suc d → orderOf (take (nlenOf (getD ws j 0)) (drop o bs)) x ≡ Same → scan ws bs n d x j o ≡ Found j o
+  unfolding findIn rows
+  scan-same k m = rw (from-at ws n j h l, lt-leb (depthOf (getD ws j 0)) d (omega arith), eq-eqb (depthOf (getD ws j 0)) (suc d) k, m)
+
+  pub scan-more : depthOf (getD ws j 0) ≡ suc d → orderOf (take (nlenOf (getD ws j 0)) (drop o bs)) x ≡ More → scan ws bs n d x j o ≡ Missing j o
+  unfolding findIn rows
+  scan-more k m = rw (from-at ws n j h l, lt-leb (depthOf (getD ws j 0)) d (omega arith), eq-eqb (depthOf (getD ws j 0)) (suc d) k, m)

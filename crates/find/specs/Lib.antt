@@ -1,0 +1,3 @@
+pub mod Finds
+pub mod Totals
+pub mod Paths

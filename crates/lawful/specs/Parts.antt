@@ -1,0 +1,77 @@
+-- The rules of a store, part by part, as the code tests them: on the slices, and not on the store that they are.
+-- Assumes nothing.
+use mathlib.Core.Bool.{Bool, true, _&&_, _||_, cond}
+use mathlib.Core.List.{List, []}
+use Prim.Native.Nat.{ℕ, suc, _+_, _*_, _^_, _≤_, _<_}
+use lib.Dec.{T, eqb, leb}
+use lib.ListN.{length, take, drop, getD}
+use Rattle.text.specs.Utf8.{Bytes, text}
+use Rattle.path.specs.Path.{Name}
+use Rattle.model.specs.Rules.{targetOk}
+use Rattle.layout.specs.Fields.{kindOf}
+use Rattle.layout.specs.Rows.{rows, nameTotal}
+use Rattle.layout.specs.Slots.{total, contents}
+use Rattle.layout.specs.Lawful.{rowsOk, slotBy, cellOk}
+use Rattle.marks.specs.Uses.{usesIn, standsFrom}
+use Rattle.entries.specs.Fits.{kindIn, formOk}
+
+-- ---- limits and lengths
+
+-- the entry limit, the byte limit, the number of entries and the umask are in range
+pub record Limits (ws : List ℕ) : Type 0 where
+  pub words : 101 ≤ length ws
+  pub entryLimit : (1 ≤ getD ws 0 0) × (getD ws 0 0 ≤ 4096)
+  pub byteLimit : (256 ≤ getD ws 1 0) × (getD ws 1 0 ≤ 1048576)
+  pub counted : getD ws 2 0 ≤ getD ws 0 0
+  pub umask : getD ws 3 0 < 2 ^ 32
+
+-- the lengths of the other slices are what the limits ask, or more
+pub record Lengths (ws : List ℕ) (rs hs ts ps bs : ℕ) : Type 0 where
+  pub records : getD ws 0 0 ≤ rs
+  pub heads : getD ws 0 0 + 32 ≤ hs
+  pub times : 4 * (getD ws 0 0 + 32) ≤ ts
+  pub paths : 33792 ≤ ps
+  pub bytes : getD ws 1 0 ≤ bs
+
+-- ---- kept paths
+
+-- a name, apart from slashes
+abbrev pub pieceOk : Name → Bool
+pieceOk n = formOk n && (leb (length n) 255 && text n)
+
+-- the path in a cell
+abbrev pub keptIn : Bytes → ℕ → ℕ → Bool
+keptIn paths i n = leb n 1024 && cellOk (take n (drop (1024 * i) paths))
+
+-- a file number, where there are n slots
+abbrev pub numberIn : List ℕ → Bytes → ℕ → ℕ → Bool
+numberIn words paths n j = eqb (getD words (5 + 3 * j) 0) 0 || (leb (getD words (5 + 3 * j) 0) n && keptIn paths (suc j) (getD words (7 + 3 * j) 0))
+
+-- every file number and the current directory
+pub record Kept (words : List ℕ) (paths : Bytes) (n : ℕ) : Type 0 where
+  pub numbers : (j : ℕ) → j < 32 → T (numberIn words paths n j)
+  pub here : T (keptIn paths 0 (getD words 4 0))
+
+-- ---- slots
+
+-- the bytes of a link are a target
+abbrev pub linkBy : ℕ → Bytes → Bool
+linkBy kind s = cond (eqb kind 3) (targetOk s) true
+
+-- the bytes of every link
+abbrev pub LinksRight : List ℕ → Bytes → Type 0
+LinksRight heads bs = (k : ℕ) → k < length heads → T (linkBy (kindOf (getD heads k 0)) (getD (contents heads bs) k []))
+
+-- every slot
+abbrev pub SlotsHeld : List ℕ → List ℕ → List ℕ → Bytes → Type 0
+SlotsHeld words recs heads bs =
+    (k : ℕ) → k < length heads → T (slotBy (kindOf (getD heads k 0)) (getD heads k 0) (usesIn k recs) (standsFrom words 32 0 k) (getD (contents heads bs) k []))
+
+-- ---- all
+
+-- what is asked of slices that are as long as the limits ask
+pub record Parts (words recs heads : List ℕ) (paths bs : Bytes) : Type 0 where
+  pub space : nameTotal recs + total heads ≤ length bs
+  pub entries : T (rowsOk (kindIn heads) (length heads) (rows recs bs))
+  pub kept : Kept words paths (length heads)
+  pub slots : SlotsHeld words recs heads bs

@@ -1,0 +1,90 @@
+// Kept paths: the current directory's, and one for each open file number.
+ghost use mathlib.Core.Path.{_≡_};
+ghost use Prim.Native.Nat.{ℕ, _≤_, _<_};
+ghost use lib.Dec.{T};
+ghost use lib.ListN.{length};
+ghost use Rattle.layout.specs.Lawful.{cellOk};
+ghost use Rattle.marks.specs.Settles.{Settles};
+ghost use Rattle.lawful.specs.Parts.{pieceOk, keptIn, numberIn, Kept};
+use path::pieces::kind_of;
+use path::pieces::piece_start;
+use text::text_ok;
+
+// Whether what stands between two slashes is a name.
+fn piece_ok(n: &[u8]) -> bool
+    ensures { λ r. ⌜ r ≡ pieceOk (now (n .entry)) ⌝ }
+{
+    if kind_of(n, true) != 2 {
+        return false;
+    }
+    if 255 < n.len() {
+        return false;
+    }
+    text_ok(n)
+}
+
+// Whether a text is a path as it is kept: nothing, or names with a slash before each. Read from its end.
+fn path_ok(s: &[u8]) -> bool
+    requires { ⌜ length (now s) ≤ 1024 ⌝ }
+    ensures { λ r. ⌜ r ≡ cellOk (now (s .entry)) ⌝ }
+{
+    let mut e = s.len();
+    while 0 < e {
+        let a = piece_start(s, e);
+        if a == 0 {
+            return false;
+        }
+        if !piece_ok(&s[a..e]) {
+            return false;
+        }
+        e = a - 1;
+    }
+    true
+}
+
+// Whether the n bytes of cell i that are used are a path as it is kept.
+fn cell_ok(paths: &[u8], i: usize, n: u64) -> bool
+    requires { ⌜ (i ≤ 32) × (33792 ≤ length (now paths)) ⌝ }
+    ensures { λ r. ⌜ r ≡ keptIn (now (paths .entry)) i n ⌝ }
+{
+    if 1024 < n {
+        return false;
+    }
+    let a = 1024 * i;
+    let e = a + n as usize;
+    path_ok(&paths[a..e])
+}
+
+// Whether each file number is closed, or stands on one of n slots and has its path.
+fn numbers_ok(words: &[u64], paths: &[u8], n: usize) -> bool
+    requires { ⌜ (101 ≤ length (now words)) × (33792 ≤ length (now paths)) ⌝ }
+    ensures { λ r. ⌜ Settles r ((j : ℕ) → j < 32 → T (numberIn (now (words .entry)) (now (paths .entry)) n j)) ⌝ }
+{
+    let mut j: usize = 0;
+    while j < 32 {
+        let h = words[5 + 3 * j];
+        let used = words[7 + 3 * j];
+        j += 1;
+        if h == 0 {
+            continue;
+        }
+        if n < h as usize {
+            return false;
+        }
+        if !cell_ok(paths, j, used) {
+            return false;
+        }
+    }
+    true
+}
+
+// Whether all kept paths are right.
+pub fn kept_ok(words: &[u64], paths: &[u8], n: usize) -> bool
+    requires { ⌜ (101 ≤ length (now words)) × (33792 ≤ length (now paths)) ⌝ }
+    ensures { λ r. ⌜ Settles r (Kept (now (words .entry)) (now (paths .entry)) n) ⌝ }
+{
+    if !numbers_ok(words, paths, n) {
+        return false;
+    }
+    cell_ok(paths, 0, words[4])
+}

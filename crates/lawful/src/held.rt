@@ -1,0 +1,83 @@
+// Slots, and the bytes that stand in them.
+ghost use mathlib.Core.Path.{_≡_};
+ghost use Prim.Native.Nat.{_-_, _≤_};
+ghost use lib.ListN.{length};
+ghost use Rattle.model.specs.Rules.{targetOk};
+ghost use Rattle.layout.specs.Rows.{nameTotal};
+ghost use Rattle.layout.specs.Slots.{total};
+ghost use Rattle.marks.specs.Settles.{Settles};
+ghost use Rattle.marks.specs.Uses.{Within, Standing};
+ghost use Rattle.lawful.specs.Parts.{LinksRight, SlotsHeld};
+use path::lengths::lengths_ok;
+use text::text_ok;
+
+// The bytes of the names.
+pub fn names_total(recs: &[u64]) -> usize
+    requires { ⌜ length (now recs) ≤ 4096 ⌝ }
+    ensures { λ r. ⌜ (r ≡ nameTotal (now (recs .entry))) × (r ≤ 1048576) ⌝ }
+{
+    let mut n: usize = 0;
+    let mut i = 0;
+    while i < recs.len() {
+        n += (recs[i] / 65536 % 256) as usize;
+        i += 1;
+    }
+    n
+}
+
+// The bytes of the slots.
+pub fn bytes_total(heads: &[u64]) -> usize
+    requires { ⌜ length (now heads) ≤ 4128 ⌝ }
+    ensures { λ r. ⌜ (r ≡ total (now (heads .entry))) × (r ≤ 69256347648) ⌝ }
+{
+    let mut n: usize = 0;
+    let mut i = 0;
+    while i < heads.len() {
+        n += (heads[i] % 16777216) as usize;
+        i += 1;
+    }
+    n
+}
+
+// Whether the bytes are a link's target.
+fn target_ok(s: &[u8]) -> bool
+    ensures { λ r. ⌜ r ≡ targetOk (now (s .entry)) ⌝ }
+{
+    if !text_ok(s) {
+        return false;
+    }
+    lengths_ok(s)
+}
+
+// Whether the bytes of every link are a target; the bytes of the slots begin at `from`.
+fn links_ok(heads: &[u64], bytes: &[u8], from: usize) -> bool
+    requires { ⌜ (total (now heads) ≤ length (now bytes)) × (from ≡ length (now bytes) - total (now heads)) ⌝ }
+    ensures { λ r. ⌜ Settles r (LinksRight (now (heads .entry)) (now (bytes .entry))) ⌝ }
+{
+    let mut i = 0;
+    let mut at = from;
+    while i < heads.len() {
+        let h = heads[i];
+        let a = at;
+        at = a + (h % 16777216) as usize;
+        i += 1;
+        if h / 16777216 % 256 != 3 {
+            continue;
+        }
+        if !target_ok(&bytes[a..at]) {
+            return false;
+        }
+    }
+    true
+}
+
+// Whether every slot is right.
+pub fn slots_held(words: &[u64], recs: &[u64], heads: &[u64], bytes: &[u8], from: usize) -> bool
+    requires { ⌜ (101 ≤ length (now words)) × (length (now heads) ≤ 4128) × Within (length (now heads)) (now recs) × Standing (now words) × (total (now heads) ≤ length (now bytes)) × (from ≡ length (now bytes) - total (now heads)) ⌝ }
+    ensures { λ r. ⌜ Settles r (SlotsHeld (now (words .entry)) (now (recs .entry)) (now (heads .entry)) (now (bytes .entry))) ⌝ }
+{
+    if !marks::slots_ok(words, recs, heads) {
+        return false;
+    }
+    links_ok(heads, bytes, from)
+}

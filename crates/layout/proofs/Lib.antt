@@ -1,0 +1,12 @@
+pub mod Rising
+pub mod Climbing
+pub mod Walks
+pub mod Homes
+pub mod Roots
+pub mod Numbered
+pub mod Tables
+pub mod Sums
+pub mod Slotted
+pub mod Used
+pub mod Entered
+pub mod Obeying

@@ -1,0 +1,129 @@
+-- The lent slices, and the state that is read back from them (docs/LAYOUT.md).
+-- Assumes nothing.
+use mathlib.Core.Bool.{cond, not}
+use mathlib.Core.List.{List, []}
+use Prim.Native.Nat.{ℕ, zero, suc, _+_, _-_, _*_}
+use lib.Dec.{eqb}
+use lib.IntN.{ℤ, pos}
+use lib.ListN.{length, take, drop, getD}
+use Rattle.text.specs.Utf8.{Bytes}
+use Rattle.path.specs.Path.{names}
+use Rattle.model.specs.Tree.{Meta, Node, dir, file, link, Files, Open, keepIf}
+use Rattle.model.specs.Calls.{State}
+use Rattle.layout.specs.Fields.{kindOf, modeOf}
+use Rattle.layout.specs.Rows.{Row, rows, treeFrom}
+use Rattle.layout.specs.Slots.{contents}
+
+-- The slices. Entry storage: the state's words, the words of the records, the words of the slots, the times of the slots, the
+-- cells of the kept paths. Byte storage: the bytes.
+pub record Store : Type 0 where
+  pub words : List ℕ
+  pub records : List ℕ
+  pub heads : List ℕ
+  pub times : List ℤ
+  pub paths : Bytes
+  pub bytes : Bytes
+
+-- the slices as they are lent, in the order of every call
+abbrev pub lent : List ℕ → List ℕ → List ℕ → List ℤ → Bytes → Bytes → Store
+lent words records heads times paths bytes = record { words = words; records = records; heads = heads; times = times; paths = paths; bytes = bytes }
+
+-- ---- the state's words
+
+-- word 0: the entry limit
+abbrev pub most : Store → ℕ
+most st = getD (st .words) 0 0
+
+-- word 1: the byte limit
+abbrev pub room : Store → ℕ
+room st = getD (st .words) 1 0
+
+-- word 2: the number of entries
+abbrev pub count : Store → ℕ
+count st = getD (st .words) 2 0
+
+-- word 3: the umask
+abbrev pub mask : Store → ℕ
+mask st = getD (st .words) 3 0
+
+-- word 4: the length of the current directory's path
+abbrev pub hereLength : Store → ℕ
+hereLength st = getD (st .words) 4 0
+
+-- words 5, 8, .. of the file numbers 0, 1, ..: 0 where the number is closed, else one more than the slot of its file
+abbrev pub holder : Store → ℕ → ℕ
+holder st n = getD (st .words) (5 + 3 * n) 0
+
+-- words 6, 9, ..: the position
+abbrev pub position : Store → ℕ → ℕ
+position st n = getD (st .words) (6 + 3 * n) 0
+
+-- words 7, 10, ..: the length of the path kept at open
+abbrev pub keptLength : Store → ℕ → ℕ
+keptLength st n = getD (st .words) (7 + 3 * n) 0
+
+-- ---- the cells of the kept paths
+
+-- a cell has 1,024 bytes, of which some are used: cell 0 is the current directory's, cell n + 1 the file number n's
+abbrev pub cell : Store → ℕ → ℕ → Bytes
+cell st i n = take n (drop (1024 * i) (st .paths))
+
+-- ---- records and slots
+
+-- "Room for 32 removed files beyond the entry limit"
+abbrev pub slotsFor : ℕ → ℕ
+slotsFor m = m + 32
+
+-- the words of the entries
+abbrev pub live : Store → List ℕ
+live st = take (count st) (st .records)
+
+-- the entries
+abbrev pub rowsOf : Store → List Row
+rowsOf st = rows (live st) (st .bytes)
+
+-- a slot's metadata: its mode, and its four times
+abbrev pub metaAt : Store → ℕ → Meta
+metaAt st k =
+    record { mode = modeOf (getD (st .heads) k 0); accessed = getD (st .times) (4 * k) (pos 0); changed = getD (st .times) (4 * k + 1) (pos 0); created = getD (st .times) (4 * k + 2) (pos 0); modified = getD (st .times) (4 * k + 3) (pos 0) }
+
+-- a slot's bytes
+abbrev pub bytesAt : Store → ℕ → Bytes
+bytesAt st k = getD (contents (st .heads) (st .bytes)) k []
+
+-- a slot's kind: 0 free, 1 directory, 2 file, 3 link
+abbrev pub kindAt : Store → ℕ → ℕ
+kindAt st k = kindOf (getD (st .heads) k 0)
+
+-- what an entry of that slot is
+abbrev pub nodeBy : ℕ → ℕ → Meta → Bytes → Node
+nodeBy kind k m s = cond (eqb kind 1) (dir m) (cond (eqb kind 2) (file k) (link m s))
+
+-- the same of a store
+abbrev pub nodeAt : Store → ℕ → Node
+nodeAt st k = nodeBy (kindAt st k) k (metaAt st k) (bytesAt st k)
+
+-- the files of n slots from slot k on, each by the number of its slot
+unfoldable pub filesFrom : Store → ℕ → ℕ → Files
+filesFrom st zero k = []
+filesFrom st (suc n) k = keepIf (eqb (kindAt st k) 2) (k, record { meta = metaAt st k; bytes = bytesAt st k }) (filesFrom st n (suc k))
+
+-- what is open of n file numbers from k on
+unfoldable pub opensFrom : Store → ℕ → ℕ → List Open
+opensFrom st zero k = []
+opensFrom st (suc n) k =
+    keepIf (not (eqb (holder st k) 0)) (record { num = k; id = holder st k - 1; pos = position st k; kept = names (cell st (suc k) (keptLength st k)) }) (opensFrom st n (suc k))
+
+-- ---- the state that is read back
+
+-- the state of a store whose slices are as long as the limits ask
+abbrev pub state : Store → State
+state st =
+    record { tree = treeFrom (nodeAt st) [] (rowsOf st); files = filesFrom st (length (st .heads)) 0; opens = opensFrom st 32 0; here = names (cell st 0 (hereLength st)); mask = mask st; most = most st; room = room st }
+
+-- ---- slices that are longer
+
+-- as much of each slice as the limits ask
+abbrev pub cut : Store → Store
+cut st =
+    record { words = take 101 (st .words); records = take (most st) (st .records); heads = take (slotsFor (most st)) (st .heads); times = take (4 * slotsFor (most st)) (st .times); paths = take 33792 (st .paths); bytes = take (room st) (st .bytes) }

@@ -1,0 +1,5 @@
+pub mod Cells
+pub mod Setting
+pub mod Opening
+pub mod Seeking
+pub mod Closing

@@ -1,0 +1,6 @@
+pub mod Fields
+pub mod Entries
+pub mod Lifts
+pub mod Opens
+pub mod Closes
+pub mod Swings

@@ -1,0 +1,5 @@
+pub mod Answers
+pub mod Blank
+pub mod Fits
+pub mod Fresh
+pub mod Zeros

@@ -1,0 +1,40 @@
+-- Set up (01, "Limits", refusals 15 and 16; docs/LAYOUT.md, "Sizes").
+-- Assumes nothing.
+use mathlib.Core.Bool.{Bool, _&&_, cond}
+use mathlib.Core.List.{List, _++_}
+use mathlib.Core.Path.{_≡_}
+use Prim.Native.Nat.{ℕ, zero, suc, _*_}
+use lib.Dec.{leb}
+use lib.ListN.{length, drop, replicate, set}
+use Rattle.model.specs.Calls.{freshState}
+use Rattle.layout.specs.Store.{Store, slotsFor, cut, state}
+use Rattle.layout.specs.Lawful.{Passes}
+
+-- "an entry limit of 1 to 4,096", and each slice of the entry storage long enough for it
+unfoldable pub entriesFit : ℕ → ℕ → ℕ → ℕ → ℕ → ℕ → Bool
+entriesFit words records heads times paths m =
+    leb 1 m && (leb m 4096 && (leb 101 words && (leb m records && (leb (slotsFor m) heads && (leb (4 * slotsFor m) times && leb 33792 paths)))))
+
+-- "a byte limit of 256 to 1,048,576", and the byte storage long enough for it
+unfoldable pub bytesFit : ℕ → ℕ → Bool
+bytesFit bytes b = leb 256 b && (leb b 1048576 && leb b bytes)
+
+-- 15, 16 or 0: "every 15 before any 16"
+unfoldable pub refusalOf : ℕ → ℕ → Store → ℕ
+refusalOf m b st =
+    cond (entriesFit (length (st .words)) (length (st .records)) (length (st .heads)) (length (st .times)) (length (st .paths)) m)
+    (cond (bytesFit (length (st .bytes)) b) 0 16)
+    15
+
+-- the words of a fresh state, before what stands behind them
+unfoldable pub freshWords : ℕ → ℕ → List ℕ → List ℕ
+freshWords m b ws = set (set (set (replicate 101 0 ++ drop 101 ws) 0 m) 1 b) 3 0o666
+
+-- what stands there after a refusal, or after an answer of 0: the fresh state, whatever stood there before
+abbrev pub Leaves : ℕ → ℕ → ℕ → Store → Store → Type 0
+Leaves zero m b st st′ = Passes st′ × (state (cut st′) ≡ freshState m b)
+Leaves (suc n) m b st st′ = st′ ≡ st
+
+-- the answer, and what is left
+abbrev pub IsSetUp : ℕ → ℕ → Store → Store → ℕ → Type 0
+IsSetUp m b st st′ r = (r ≡ refusalOf m b st) × Leaves r m b st st′

@@ -1,0 +1,108 @@
+// Set up: a fresh store in what the caller lends.
+ghost use mathlib.Core.Path.{_≡_};
+ghost use mathlib.Core.List.{_++_};
+ghost use Prim.Native.Nat.{_≤_};
+ghost use lib.ListN.{length, drop, replicate, set};
+ghost use Rattle.layout.specs.Store.{lent};
+ghost use Rattle.setup.specs.SetUp.{entriesFit, bytesFit, freshWords, IsSetUp};
+
+// Zeros in front of all else.
+fn zero_words(s: &mut [u64], n: usize)
+    requires { ⌜ n ≤ length (now s) ⌝ }
+    ensures { λ _. ⌜ now (s .exit) ≡ replicate n 0 ++ drop n (now (s .entry)) ⌝ }
+{
+    let mut i = 0;
+    while i < n {
+        s[i] = 0;
+        i += 1;
+    }
+}
+
+// The limits, no entry, the umask octal 666, the root as current directory, every file number closed.
+fn fresh_words(words: &mut [u64], entries: u64, bytes: u64)
+    requires { ⌜ 101 ≤ length (now words) ⌝ }
+    ensures { λ _. ⌜ now (words .exit) ≡ freshWords entries bytes (now (words .entry)) ⌝ }
+{
+    zero_words(words, 101);
+    words[0] = entries;
+    words[1] = bytes;
+    words[3] = 0o666;
+}
+
+// Whether the limit is one of 1 to 4,096, and the entry storage long enough for it.
+fn entries_fit(
+    words: usize,
+    records: usize,
+    heads: usize,
+    times: usize,
+    paths: usize,
+    limit: u64,
+) -> bool
+    ensures { λ r. ⌜ r ≡ entriesFit words records heads times paths limit ⌝ }
+{
+    if limit < 1 {
+        return false;
+    }
+    if 4096 < limit {
+        return false;
+    }
+    let n = limit as usize;
+    if words < 101 {
+        return false;
+    }
+    if records < n {
+        return false;
+    }
+    if heads < n + 32 {
+        return false;
+    }
+    if times < 4 * (n + 32) {
+        return false;
+    }
+    33792 <= paths
+}
+
+// Whether the limit is one of 256 to 1,048,576, and the byte storage long enough for it.
+fn bytes_fit(bytes: usize, limit: u64) -> bool
+    ensures { λ r. ⌜ r ≡ bytesFit bytes limit ⌝ }
+{
+    if limit < 256 {
+        return false;
+    }
+    if 1048576 < limit {
+        return false;
+    }
+    limit as usize <= bytes
+}
+
+// 0, or refusal 15 or 16. Only the state's words and the words of the slots are written.
+#[no_mangle]
+pub extern "C" fn set_up(
+    words: &mut [u64],
+    records: &[u64],
+    heads: &mut [u64],
+    times: &[i64],
+    paths: &[u8],
+    bytes: &[u8],
+    limit: u64,
+    room: u64,
+) -> u32
+    ensures { λ r. ⌜ IsSetUp limit room (lent (now (words .entry)) (now (records .entry)) (now (heads .entry)) (now (times .entry)) (now (paths .entry)) (now (bytes .entry))) (lent (now (words .exit)) (now (records .entry)) (now (heads .exit)) (now (times .entry)) (now (paths .entry)) (now (bytes .entry))) r ⌝ }
+{
+    if !entries_fit(
+        words.len(),
+        records.len(),
+        heads.len(),
+        times.len(),
+        paths.len(),
+        limit,
+    ) {
+        return 15;
+    }
+    if !bytes_fit(bytes.len(), room) {
+        return 16;
+    }
+    fresh_words(words, limit, room);
+    zero_words(heads, limit as usize + 32);
+    0
+}
