@@ -9,7 +9,7 @@ ghost use Rattle.marks.specs.Settles.{Settles};
 ghost use Rattle.marks.specs.Uses.{standsFrom, Within, Standing, MarkedBy, headOk, SlotsRight};
 
 // Marks the slot of each record; false where one is marked already.
-fn mark_records(recs: &[u64], marks: &mut [u8; 4128]) -> bool
+pub fn mark_records(recs: &[u64], marks: &mut [u8; 4128]) -> bool
     requires { ⌜ Within 4128 (now recs) × (length (now marks) ≡ 4128) × ((k : ℕ) → getD (now marks) k 0 ≡ 0) ⌝ }
     ensures { λ r. ⌜ MarkedBy (now (recs .entry)) (now (marks .exit)) r × (length (now (marks .exit)) ≡ 4128) ⌝ }
 {
@@ -26,9 +26,9 @@ fn mark_records(recs: &[u64], marks: &mut [u8; 4128]) -> bool
 }
 
 // Adds 2 to the mark of each slot that a file number stands on, once.
-fn mark_numbers(words: &[u64], marks: &mut [u8; 4128])
+pub fn mark_numbers(words: &[u64], marks: &mut [u8; 4128])
     requires { ⌜ (101 ≤ length (now words)) × Standing (now words) × (length (now marks) ≡ 4128) × ((k : ℕ) → getD (now marks) k 0 ≤ 1) ⌝ }
-    ensures { λ _. ⌜ ((k : ℕ) → getD (now (marks .exit)) k 0 ≡ getD (now (marks .entry)) k 0 + cond (standsFrom (now (words .entry)) 32 0 k) 2 0) ⌝ }
+    ensures { λ _. ⌜ ((k : ℕ) → getD (now (marks .exit)) k 0 ≡ getD (now (marks .entry)) k 0 + cond (standsFrom (now (words .entry)) 32 0 k) 2 0) × (length (now (marks .exit)) ≡ 4128) ⌝ }
 {
     let mut j: usize = 0;
     while j < 32 {

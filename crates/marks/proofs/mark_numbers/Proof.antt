@@ -67,7 +67,7 @@ loop-again-3 c = let a = c .before .before .before .before .before .before .args
     (omega arith, simp length-set (l .inv .1), added-more (a .words .now) (a .marks .now) (l .marks) (l .j) (l .inv .2) (c .before .before .before .before .before .before .pre .3) (omega arith) (omega arith) (c .if2 .left))
 
 returns : tie.Need-returns Inv-loop μ-loop
-returns c = let l = c .before .loop in let e : l .j ≡ 32 = omega arith in rw e at (l .inv .2)
+returns c = let l = c .before .loop in let e : l .j ≡ 32 = omega arith in (rw e at (l .inv .2), l .inv .1)
 
 pub mark-numbers-spec : {M : Type 1} → statement M
 mark-numbers-spec =

@@ -32,7 +32,7 @@ heads-ok-requires c κs = search needs
 returns-2 : tie.Need-returns-2
 returns-2 c = let s = c .before .before .before .before .before .before .before .before .before .before in let m = c .before .before .before .before .before .mark-records in
     let t = subst (MarkedBy (s .args .recs .now) (m .last .1 .0)) (not-false (m .result) (c .before .before .before .before .if1 .left)) (m .ensures .0) in
-    slots-marked (s .args .words .now) (s .args .recs .now) (s .args .heads .now) (m .last .1 .0) (c .before .before .mark-numbers .last .1 .0) t (c .before .before .mark-numbers .ensures) (c .heads-ok .result) (c .heads-ok .ensures)
+    slots-marked (s .args .words .now) (s .args .recs .now) (s .args .heads .now) (m .last .1 .0) (c .before .before .mark-numbers .last .1 .0) t (c .before .before .mark-numbers .ensures .0) (c .heads-ok .result) (c .heads-ok .ensures)
 
 pub slots-ok-spec : {M : Type 1} → statement M
 slots-ok-spec =
