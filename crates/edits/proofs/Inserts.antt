@@ -23,7 +23,8 @@ use Rattle.layout.specs.Store.{Store, lent, count, live, rowsOf, state}
 use Rattle.layout.specs.Lawful.{slotBy, Lawful}
 use Rattle.layout.specs.Alike.{edited, Spells}
 use Rattle.records.specs.Blocks.{rowOf, Opened}
-use Rattle.records.proofs.Entries.{rows-front, length-rows}
+use Rattle.layout.proofs.Named.{length-rows}
+use Rattle.records.proofs.Entries.{rows-front}
 use Rattle.records.proofs.Fields.{depth-word, nlen-word, slot-word}
 use Rattle.views.specs.Parts.{pathAfter}
 use Rattle.edits.specs.Filling.{timed, Filled}

@@ -26,12 +26,14 @@ use Rattle.path.proofs.Laws.{and-left, and-right}
 use Rattle.turns.specs.Turn.{turned}
 use Rattle.turns.proofs.Laws.{turned-parts}
 use Rattle.records.specs.Blocks.{each, raise, raised, moveTo, Liftable, Moved}
-use Rattle.records.proofs.Entries.{length-rows, rows-drop, contents-kept, total-step, total-take}
+use Rattle.layout.proofs.Named.{length-rows, rows-drop}
+use Rattle.records.proofs.Entries.{contents-kept, total-step, total-take}
 use Rattle.records.proofs.Lifts.{length-each}
 use Rattle.records.proofs.Swings.{move-down, move-up}
 use Rattle.views.specs.Parts.{pathAfter, Deeper, deepen}
 use Rattle.views.proofs.Inserting.{root-is}
-use Rattle.views.proofs.Removing.{follows-low, walk-follows, walk-rest}
+use Rattle.layout.proofs.Walks.{rest-ok as walk-rest}
+use Rattle.views.proofs.Removing.{follows-low, walk-follows}
 use Rattle.edits.specs.Carriage.{Carried}
 use Rattle.edits.specs.Growth.{newRow}
 use Rattle.edits.specs.Movement.{Beside, front, back, Movable}

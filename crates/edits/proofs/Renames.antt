@@ -10,7 +10,7 @@ use lib.Seq.{length-take-le, take-append-seam, drop-append-seam, drop-cons, getD
 use Rattle.layout.specs.Fields.{depthOf, nlenOf, slotOf, recordWord}
 use Rattle.layout.specs.Rows.{Row, rows, nameTotal}
 use Rattle.records.specs.Blocks.{rowOf, Opened, Closed}
-use Rattle.records.proofs.Entries.{length-rows}
+use Rattle.layout.proofs.Named.{length-rows}
 use Rattle.records.proofs.Fields.{depth-word, nlen-word, slot-word, depth-bound}
 use Rattle.edits.specs.Renaming.{Renamed}
 

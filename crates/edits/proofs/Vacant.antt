@@ -20,7 +20,7 @@ use Rattle.layout.proofs.Roots.{all-slots}
 use Rattle.layout.proofs.Slotted.{SlotOf, free, directory, named, removed, target, slot-of}
 use Rattle.layout.proofs.Sums.{sumFrom, sum-both, sum-none, sumRows, sum-rows}
 use Rattle.layout.proofs.Used.{live-length}
-use Rattle.records.proofs.Entries.{length-rows}
+use Rattle.layout.proofs.Named.{length-rows}
 use Rattle.slots.proofs.Frees.{full}
 use Rattle.slots.specs.Free.{freeFrom}
 use Rattle.slots.specs.declared.Slot.the-variants.{Full}

@@ -1,92 +1,92 @@
--- What `findIn` says of a walk. The entries behind a directory are those below it, by rising names, and then others, whose paths
--- are behind all of these. So the scan stands at the first path that is not before the one looked for: it is that path, or a new
--- entry fits there.
+-- What `findIn` says of a walk. The scan passes what stands before the entry x of the directory q: the directory, its entries with
+-- lesser names, and what lies below these. So behind each that it has passed the entry may stand. It ends at the entry itself, or
+-- at one that may stand behind it: an entry with a greater name, or one of another directory of the path q.
 -- Assumes nothing.
 use mathlib.Core.Bool.{Bool, true, false}
-use mathlib.Core.List.{List, [], _∷_, _++_, append-assoc, append-nil}
-use mathlib.Core.Path.{_≡_, refl, sym, ap, _∙_}
+use mathlib.Core.List.{List, [], _∷_, _++_}
+use mathlib.Core.Path.{_≡_, refl, sym, ap, _∙_, subst}
 use Prim.Native.Nat.{ℕ, suc, _+_, _≤_, _<_, zero-le}
 use native.Mathlib.Nat.{add-zero}
 use native.Mathlib.Omega.{arith}
-use lib.Dec.{leb, eqb}
-use lib.ListN.{length, take, drop, getD, length-append}
-use lib.Seq.{take-append-seam, getD-append-seam}
+use lib.Dec.{T, leb, eqb}
+use lib.ListN.{length, take, drop, getD, length-append, length-take, List·getD-append}
+use lib.Seq.{take-length, take-append-seam, getD-append-seam, getD-take}
 use borrow.Author.Tests.{leb-true, leb-false, eqb-true, eqb-false}
 use Rattle.path.specs.Path.{Name}
 use Rattle.model.specs.Tree.{Path, before}
+use Rattle.model.proofs.Entries.{of-true}
 use Rattle.layout.specs.Rows.{Row, pathBy, pathOf}
 use Rattle.layout.specs.Lawful.{follows, walkOk}
+use Rattle.layout.proofs.Named.{nameSum}
+use Rattle.layout.proofs.Rising.{Follows, aside, below, follows-by, by-follows, next-length}
+use Rattle.layout.proofs.Walks.{rest-ok}
 use Rattle.order.specs.Order.{orderOf}
 use Rattle.order.specs.declared.Order.{Order}
 use Rattle.order.specs.declared.Order.the-variants.{Less, Same, More}
 use Rattle.order.proofs.Orders.{before-of-less, same-of-same, behind-of-more}
+use Rattle.views.specs.Parts.{pathAfter, dirAfter, Behind}
+use Rattle.views.proofs.Removing.{walk-follows, next-keeps}
 use Rattle.find.specs.declared.Place.{Place}
 use Rattle.find.specs.declared.Place.the-variants.{Found, Missing}
 use Rattle.find.specs.Finds.{pickPlace, byOrder, findIn}
-use Rattle.find.specs.Paths.{lastPath, lastDir, pathAt, namesLength}
-use Rattle.find.proofs.Walks.{follows-next, follows-first, follows-short, Step, step}
-use Rattle.find.proofs.Under.{under-on, under-out}
 
 -- ---- one entry
 
--- below a directory, before the name x in it: the directory itself, or what lies below an entry with a lesser name
-abbrev pub Early : Path → Name → Bool → Type 0
-Early [] x d = d ≡ true
-Early (c ∷ s) x d = before c x ≡ true
-
--- the path p begins with q, and stands before the entry x of q
-pub record Inside (q : Path) (x : Name) (p : Path) (d : Bool) : Type 0 where
-  pub rest : Path
-  pub is : p ≡ q ++ rest
-  pub early : Early rest x d
-
--- what stands first follows an entry of path c just as it followed one of path p
-abbrev pub Meets : Path → Path → List Row → Type 0
-Meets c p [] = Unit {0}
-Meets c p (r ∷ rs) = ((e : Bool) → follows c e (r .depth) (r .name) ≡ true) × (pathOf c r ≡ pathOf p r)
+-- the entry x of the directory q may stand behind an entry of path p
+pub record Fits (q : Path) (x : Name) (p : Path) (d : Bool) : Type 0 where
+  pub within : take (length q) p ≡ q
+  pub follows : T (follows p d (suc (length q)) x)
 
 module _ (q : Path) (x : Name) where
-  -- the path looked for
-  abbrev goal : Path
-  goal = q ++ (x ∷ [])
+  -- behind the directory itself
+  pub fits-first : Fits q x q true
+  fits-first = record { within = take-length q; follows = by-follows q true (suc (length q)) x (below refl) }
 
-  goal-length : length goal ≡ suc (length q)
-  goal-length = length-append q (x ∷ []) ∙ omega arith
+  -- an entry of the directory stands behind one with a lesser name
+  stands : (c y : Name) (e : Bool) → T (before c y) → T (follows (q ++ (c ∷ [])) e (suc (length q)) y)
+  stands c y e t =
+      by-follows (q ++ (c ∷ [])) e (suc (length q)) y
+      (aside (length q) (omega (arith, length-append q (c ∷ []))) (subst (λ (n : Name). T (before n y)) (sym (getD-append-seam q c [] [])) t))
 
-  fits : (p : Path) (d : Bool) → Inside q x p d → follows p d (suc (length q)) x ≡ true
-  fits p d u = go (u .rest) (u .is) (u .early)
-    where
-      go : (s : Path) → p ≡ q ++ s → Early s x d → follows p d (suc (length q)) x ≡ true
-      go [] e h = follows-first p d (length q) x (ap length (sym (append-nil q)) ∙ ap length (sym e)) h
-      go (c ∷ s) e h =
-          follows-next p d (length q) x (omega (arith, ap length e, length-append q (c ∷ s)))
-          (ap (λ (v : Path). before (getD v (length q) []) x) e ∙ ap (λ (v : Name). before v x) (getD-append-seam q c s []) ∙ h)
+  module _ (p : Path) (d : Bool) (u : Fits q x p d) where
+    long : length q ≤ length p
+    long = omega (arith, sym (length-take (length q) p) ∙ ap length (u .within))
 
-  -- an entry of the directory has the directory's path and its name
-  child : (p : Path) (d : Bool) (y : Name) → Inside q x p d → pathBy (suc (length q)) p y ≡ q ++ (y ∷ [])
-  child p d y u = ap (λ (v : Path). v ++ (y ∷ [])) (ap (take (length q)) (u .is) ∙ take-append-seam q (u .rest))
+    -- an entry of the directory has the directory's path and its name
+    child : (y : Name) → pathBy (suc (length q)) p y ≡ q ++ (y ∷ [])
+    child y = ap (λ (o : Path). o ++ (y ∷ [])) (u .within)
 
-  -- an entry of the directory with a greater name follows the path looked for
-  above : (p : Path) (d : Bool) (y : Name) → Inside q x p d → before x y ≡ true
-      → ((e : Bool) → follows goal e (suc (length q)) y ≡ true) × (pathBy (suc (length q)) goal y ≡ pathBy (suc (length q)) p y)
-  above p d y u h = (
-    λ e. follows-next goal e (length q) y (omega (arith, goal-length)) (ap (λ (v : Name). before v y) (getD-append-seam q x [] []) ∙ h),
-    ap (λ (v : Path). v ++ (y ∷ [])) (take-append-seam q (x ∷ [])) ∙ sym (child p d y u),
-  )
+    -- behind one with a lesser name
+    fits-lesser : (y : Name) (e : Bool) → T (before y x) → Fits q x (pathBy (suc (length q)) p y) e
+    fits-lesser y e t = subst (λ (o : Path). Fits q x o e) (sym (child y)) (record { within = take-append-seam q (y ∷ []); follows = stands y x e t })
 
-  -- one with a lesser name is early
-  below : (p : Path) (d e : Bool) (y : Name) → Inside q x p d → before y x ≡ true → Inside q x (pathBy (suc (length q)) p y) e
-  below p d e y u h = record { rest = y ∷ []; is = child p d y u; early = h }
+    -- behind what lies deeper
+    fits-deeper : (kind : ℕ → ℕ) (n : ℕ) (r : Row) (e : Bool) → suc (length q) < r .depth → T (follows p d (r .depth) (r .name)) → Fits q x (pathOf p r) e
+    fits-deeper kind n r e l t = record { within = next-keeps kind n (length q) p d r (r .depth) refl (omega (arith, l)) t ∙ u .within; follows = go (suc (length q)) refl (follows-by p d (suc (length q)) x (u .follows)) }
+      where
+        keeps : take (suc (length q)) (pathOf p r) ≡ take (suc (length q)) p
+        keeps = next-keeps kind n (suc (length q)) p d r (r .depth) refl l t
 
-  -- and so is what lies deeper: it lies below an entry with a lesser name
-  beyond : (p : Path) (d e : Bool) (t : ℕ) (y : Name) → Inside q x p d → suc (length q) < t → follows p d t y ≡ true → Inside q x (pathBy t p y) e
-  beyond p d e t y u l h = go (u .rest) (u .is) (u .early)
-    where
-      go : (s : Path) → p ≡ q ++ s → Early s x d → Inside q x (pathBy t p y) e
-      go [] i w = absurd (omega (arith, l, follows-short p d t y h, ap length i, ap length (append-nil q)))
-      go (c ∷ s) i w =
-          let v = under-on (q ++ (c ∷ [])) p d t y (record { rest = s; is = i ∙ sym (append-assoc q (c ∷ []) s) }) h (omega (arith, l, length-append q (c ∷ []))) in
-          record { rest = c ∷ v .rest; is = v .is ∙ append-assoc q (c ∷ []) (v .rest); early = w }
+        short : (k : ℕ) → Follows p d (r .name) k → k ≤ suc (length p)
+        short k (aside j h z) = omega arith
+        short k (below z) = omega arith
+
+        go : (k : ℕ) → k ≡ suc (length q) → Follows p d x k → T (follows (pathOf p r) e (suc (length q)) x)
+        go k i (aside j h z) =
+            let w : j ≡ length q = omega (arith, i) in
+            let g : getD p j [] ≡ getD (pathOf p r) j [] =
+            sym (getD-take (suc (length q)) p j [] (omega (arith, w))) ∙ ap (λ (o : Path). getD o j []) (sym keeps) ∙ getD-take (suc (length q)) (pathOf p r) j [] (omega (arith, w)) in
+            let b : j < length (pathOf p r) = omega (arith, w, l, next-length p d (r .name) (r .depth) (follows-by p d (r .depth) (r .name) t)) in
+            subst (λ (m : ℕ). T (follows (pathOf p r) e (suc m) x)) w (by-follows (pathOf p r) e (suc j) x (aside j b (subst (λ (m : Name). T (before m x)) g z)))
+        go k i (below z) = absurd (omega (arith, i, l, short (r .depth) (follows-by p d (r .depth) (r .name) t)))
+
+    -- what is not deeper than the directory stands behind the entry
+    behind-out : (y : Name) (k : ℕ) → k ≤ length q → Follows p d y k → T (follows (q ++ (x ∷ [])) false k y)
+    behind-out y k l (aside j h z) =
+        let g : getD p j [] ≡ getD (q ++ (x ∷ [])) j [] =
+        sym (getD-take (length q) p j [] (omega (arith, l))) ∙ ap (λ (o : Path). getD o j []) (u .within) ∙ sym (List·getD-append q (x ∷ []) [] j (omega (arith, l))) in
+        by-follows (q ++ (x ∷ [])) false (suc j) y (aside j (omega (arith, l, length-append q (x ∷ []))) (subst (λ (m : Name). T (before m y)) g z))
+    behind-out y k l (below z) = absurd (omega (arith, l, long))
 
 -- ---- the scan
 
@@ -95,19 +95,17 @@ pub record FoundAt (q : Path) (x : Name) (p : Path) (rs : List Row) (k o j b : �
   pub index : ℕ
   pub at : j ≡ k + index
   pub within : index < length rs
-  pub offset : b ≡ o + namesLength (take index rs)
-  pub path : pathAt p rs index ≡ q ++ (x ∷ [])
+  pub offset : b ≡ o + nameSum (take index rs)
+  pub path : pathAfter p (take (suc index) rs) ≡ q ++ (x ∷ [])
 
--- an entry x of the directory q may stand before entry j: it has that path there, follows what stands before it, and what stands
--- there follows it, with the path that it had
+-- the entry x of the directory q may stand before entry j
 pub record MissingAt (kind : ℕ → ℕ) (q : Path) (x : Name) (p : Path) (d : Bool) (rs : List Row) (k o j b : ℕ) : Type 0 where
   pub index : ℕ
   pub at : j ≡ k + index
   pub within : index ≤ length rs
-  pub offset : b ≡ o + namesLength (take index rs)
-  pub path : pathBy (suc (length q)) (lastPath p (take index rs)) x ≡ q ++ (x ∷ [])
-  pub follow : follows (lastPath p (take index rs)) (lastDir kind d (take index rs)) (suc (length q)) x ≡ true
-  pub meets : Meets (q ++ (x ∷ [])) (lastPath p (take index rs)) (drop index rs)
+  pub offset : b ≡ o + nameSum (take index rs)
+  pub fits : Fits q x (pathAfter p (take index rs)) (dirAfter kind d (take index rs))
+  pub behind : Behind (q ++ (x ∷ [])) (drop index rs)
 
 -- what an answer of the scan says
 abbrev pub Says : (ℕ → ℕ) → Path → Name → Path → Bool → List Row → ℕ → ℕ → Place → Type 0
@@ -116,35 +114,34 @@ Says kind q x p d rs k o (Missing j b) = MissingAt kind q x p d rs k o j b
 
 module _ (kind : ℕ → ℕ) (n : ℕ) (q : Path) (x : Name) where
   -- at the first entry, or at the end
-  here : (p : Path) (d : Bool) (rs : List Row) (k o : ℕ) → Inside q x p d → Meets (q ++ (x ∷ [])) p rs → MissingAt kind q x p d rs k o k o
-  unfolding lastPath lastDir namesLength
-  here p d rs k o u m =
-      record { index = 0; at = sym (add-zero k); within = zero-le; offset = sym (add-zero o); path = child q x p d x u; follow = fits q x p d u; meets = m }
+  here : (p : Path) (d : Bool) (rs : List Row) (k o : ℕ) → Fits q x p d → Behind (q ++ (x ∷ [])) rs → MissingAt kind q x p d rs k o k o
+  unfolding pathAfter dirAfter nameSum
+  here p d rs k o u m = record { index = 0; at = sym (add-zero k); within = zero-le; offset = sym (add-zero o); fits = u; behind = m }
 
   -- the first entry is it
   found : (p : Path) (r : Row) (rs : List Row) (k o : ℕ) → pathOf p r ≡ q ++ (x ∷ []) → FoundAt q x p (r ∷ rs) k o k o
-  unfolding lastPath namesLength
+  unfolding pathAfter nameSum
   found p r rs k o e = record { index = 0; at = sym (add-zero k); within = omega arith; offset = sym (add-zero o); path = e }
 
   -- what is said behind an entry is said with it
   later : (p : Path) (d : Bool) (r : Row) (rs : List Row) (k o : ℕ) (w : Place) → Says kind q x (pathOf p r) (eqb (kind (r .slot)) 1) rs (suc k) (o + length (r .name)) w
       → Says kind q x p d (r ∷ rs) k o w
-  unfolding lastPath lastDir namesLength
+  unfolding pathAfter dirAfter nameSum
   later p d r rs k o (Found j b) f =
       record { index = suc (f .index); at = omega (arith, f .at); within = omega (arith, f .within); offset = omega (arith, f .offset); path = f .path }
   later p d r rs k o (Missing j b) f =
-      record { index = suc (f .index); at = omega (arith, f .at); within = omega (arith, f .within); offset = omega (arith, f .offset); path = f .path; follow = f .follow; meets = f .meets }
+      record { index = suc (f .index); at = omega (arith, f .at); within = omega (arith, f .within); offset = omega (arith, f .offset); fits = f .fits; behind = f .behind }
 
   -- one entry, and what the scan behind it says
-  turn : (p : Path) (d : Bool) (r : Row) (rs : List Row) (k o : ℕ) → Inside q x p d → walkOk kind n p d (r ∷ rs) ≡ true
-      → (Inside q x (pathOf p r) (eqb (kind (r .slot)) 1)
+  turn : (p : Path) (d : Bool) (r : Row) (rs : List Row) (k o : ℕ) → Fits q x p d → T (walkOk kind n p d (r ∷ rs))
+      → (Fits q x (pathOf p r) (eqb (kind (r .slot)) 1)
       → Says kind q x (pathOf p r) (eqb (kind (r .slot)) 1) rs (suc k) (o + length (r .name)) (findIn (length q) x rs (suc k) (o + length (r .name))))
       → Says kind q x p d (r ∷ rs) k o (findIn (length q) x (r ∷ rs) k o)
   unfolding findIn
   turn p d r rs k o u h ih = one (leb (r .depth) (length q)) refl
     where
-      s : Step kind n p d r rs
-      s = step kind n p d r rs h
+      t : T (follows p d (r .depth) (r .name))
+      t = walk-follows kind n p d r rs h
 
       dir : Bool
       dir = eqb (kind (r .slot)) 1
@@ -152,26 +149,26 @@ module _ (kind : ℕ → ℕ) (n : ℕ) (q : Path) (x : Name) where
       on : Place
       on = findIn (length q) x rs (suc k) (o + length (r .name))
 
-      more : Inside q x (pathOf p r) dir → Says kind q x p d (r ∷ rs) k o on
+      more : Fits q x (pathOf p r) dir → Says kind q x p d (r ∷ rs) k o on
       more v = later p d r rs k o on (ih v)
 
       three : r .depth ≡ suc (length q) → (w : Order) → orderOf (r .name) x ≡ w → Says kind q x p d (r ∷ rs) k o (byOrder w on (Found k o) (Missing k o))
-      three e Less w = more (rw e (below q x p d dir (r .name) u (before-of-less (r .name) x w)))
-      three e Same w = found p r rs k o (rw e (child q x p d (r .name) u ∙ ap (λ (v : Name). q ++ (v ∷ [])) (same-of-same (r .name) x w)))
-      three e More w = here p d (r ∷ rs) k o u (rw e (above q x p d (r .name) u (behind-of-more (r .name) x w)))
+      three e Less w = more (rw e (fits-lesser q x p d u (r .name) dir (of-true (before-of-less (r .name) x w))))
+      three e Same w = found p r rs k o (rw e (child q x p d u (r .name) ∙ ap (λ (v : Name). q ++ (v ∷ [])) (same-of-same (r .name) x w)))
+      three e More w = here p d (r ∷ rs) k o u (rw e (stands q x x (r .name) false (of-true (behind-of-more (r .name) x w))))
 
       two : length q < r .depth → (b : Bool) → eqb (r .depth) (suc (length q)) ≡ b
           → Says kind q x p d (r ∷ rs) k o (pickPlace b (byOrder (orderOf (r .name) x) on (Found k o) (Missing k o)) on)
       two l true e = three (eqb-true (r .depth) (suc (length q)) e) (orderOf (r .name) x) refl
-      two l false e = more (beyond q x p d dir (r .depth) (r .name) u (let z = eqb-false (r .depth) (suc (length q)) e in omega (arith, l, z)) (s .follow))
+      two l false e = more (fits-deeper q x p d u kind n r dir (let z = eqb-false (r .depth) (suc (length q)) e in omega (arith, l, z)) t)
 
       one : (b : Bool) → leb (r .depth) (length q) ≡ b
           → Says kind q x p d (r ∷ rs) k o (pickPlace b (Missing k o) (pickPlace (eqb (r .depth) (suc (length q))) (byOrder (orderOf (r .name) x) on (Found k o) (Missing k o)) on))
-      one true e = here p d (r ∷ rs) k o u (under-out q p d (r .depth) (r .name) (record { rest = u .rest; is = u .is }) (s .follow) (x ∷ []) (leb-true (r .depth) (length q) e))
+      one true e = here p d (r ∷ rs) k o u (behind-out q x p d u (r .name) (r .depth) (leb-true (r .depth) (length q) e) (follows-by p d (r .depth) (r .name) t))
       one false e = two (leb-false (r .depth) (length q) e) (eqb (r .depth) (suc (length q))) refl
 
-  pub scans : (p : Path) (d : Bool) (rs : List Row) (k o : ℕ) → Inside q x p d → walkOk kind n p d rs ≡ true → Says kind q x p d rs k o (findIn (length q) x rs k o)
+  pub scans : (p : Path) (d : Bool) (rs : List Row) (k o : ℕ) → Fits q x p d → T (walkOk kind n p d rs) → Says kind q x p d rs k o (findIn (length q) x rs k o)
   unfolding findIn
   scans p d [] k o u h = here p d [] k o u tt
   scans p d (r ∷ rs) k o u h =
-      turn p d r rs k o u h (λ v. scans (pathOf p r) (eqb (kind (r .slot)) 1) rs (suc k) (o + length (r .name)) v (step kind n p d r rs h .rest))
+      turn p d r rs k o u h (λ v. scans (pathOf p r) (eqb (kind (r .slot)) 1) rs (suc k) (o + length (r .name)) v (rest-ok kind n p d r rs h))

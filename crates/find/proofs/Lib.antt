@@ -1,11 +1,7 @@
 pub mod Blocks
-pub mod Cuts
 pub mod Finding
-pub mod PathOrder
 pub mod Places
 pub mod Reading
 pub mod Records
 pub mod Scan
 pub mod Sums
-pub mod Under
-pub mod Walks

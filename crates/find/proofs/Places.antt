@@ -1,132 +1,130 @@
--- For callers of `find_child`, on a directory q and the walk behind it: an entry is found exactly where its path stands; where it
--- is missing no entry has the path, and a new entry put there keeps the walk. The paths before that place are before the path,
--- and those from there on behind it, since what stands there follows the new entry.
+-- For callers of `find_child`, on a lawful store: where it is found, the record has the path and the slot of the entry; where it is
+-- missing no entry has the path, and a new entry may stand there.
 -- Assumes nothing.
 use mathlib.Core.Bool.{Bool, true, false}
-use mathlib.Core.List.{List, [], _∷_, _++_, append-nil}
-use mathlib.Core.Path.{_≡_, refl, sym, ap, _∙_}
-use Prim.Native.Nat.{ℕ, zero, suc, _+_, _-_, _≤_, _<_}
-use native.Mathlib.Nat.{zero-add}
+use mathlib.Core.List.{List, [], _∷_, _++_}
+use mathlib.Core.Option.{none, some}
+use mathlib.Core.Path.{_≡_, sym, ap, _∙_, subst}
+use Prim.Native.Nat.{ℕ, suc, _+_, _≤_, _<_}
+use native.Mathlib.Numerals.{add-one}
 use native.Mathlib.Omega.{arith}
-use lib.Dec.{ltb, eqb}
-use lib.ListN.{length, take, drop, length-drop}
-use borrow.Author.Tests.{ltb-true, ltb-false}
+use lib.Dec.{T}
+use lib.ListN.{length, take, drop, getD, length-drop, take-append-drop}
+use lib.Seq.{drop-drop, take-add, length-take-le}
+use borrow.Author.Tests.{eq-eqb}
 use Rattle.path.specs.Path.{Name}
-use Rattle.model.specs.Tree.{Path, Node}
-use Rattle.model.specs.Rules.{nameOk}
-use Rattle.layout.specs.Rows.{Row, pathOf, treeFrom}
-use Rattle.layout.specs.Lawful.{walkOk}
+use Rattle.model.specs.Tree.{Path, look}
+use Rattle.layout.specs.Fields.{depthOf}
+use Rattle.layout.specs.Rows.{Row, nameTotal, treeFrom}
+use Rattle.layout.specs.Store.{Store, count, live, rowsOf, kindAt, nodeAt, state}
+use Rattle.layout.specs.Lawful.{follows, walkOk, rowsOk, Lawful}
+use Rattle.layout.specs.Alike.{HasSlot}
+use Rattle.layout.proofs.Named.{nameSum, name-offset}
+use Rattle.views.specs.Parts.{pathAfter, dirAfter, Behind, Gap}
+use Rattle.views.proofs.Parted.{after-both, dir-both}
+use Rattle.views.proofs.Gaps.{gap-none}
 use Rattle.find.specs.declared.Place.{Place}
 use Rattle.find.specs.declared.Place.the-variants.{Found, Missing}
 use Rattle.find.specs.Finds.{findIn}
-use Rattle.find.specs.Paths.{lastPath, lastDir, pathAt, namesLength, pathLess}
-use Rattle.find.proofs.PathOrder.{path-transitive, never-same}
-use Rattle.find.proofs.Walks.{step, walk-cons, walk-append, walk-take, walk-drop, rises, ordered, unique, rise-one, tree-append}
-use Rattle.find.proofs.Finding.{Meets, FoundAt, MissingAt, Says, scans}
+use Rattle.find.specs.Paths.{slotAt, pathAt}
+use Rattle.find.proofs.Finding.{MissingAt, Says, fits-first, scans}
+use Rattle.find.proofs.Records.{rows-long, total-live, walk-behind, dir-next, slot-low, path-look, path-slot, path-depth}
 
--- the entries from i on, behind the last of those before
-pub path-at-drop : (p : Path) (rs : List Row) (i j : ℕ) → pathAt p rs (i + j) ≡ pathAt (lastPath p (take i rs)) (drop i rs) j
-unfolding lastPath
-path-at-drop p rs zero j = ap (pathAt p rs) (zero-add j)
-path-at-drop p [] (suc i) j = refl
-path-at-drop p (r ∷ rs) (suc i) j =
-    let e : suc i + j ≡ suc (i + j) = omega arith in
-    ap (pathAt p (r ∷ rs)) e ∙ path-at-drop (pathOf p r) rs i j
+-- record j has the entry x of the directory at record i, and o is the offset of its name
+pub record FoundSlot (st : Store) (i : ℕ) (x : Name) (j o : ℕ) : Type 0 where
+  pub after : i < j
+  pub within : j < count st
+  pub offset : o ≡ nameTotal (take j (live st))
+  pub path : pathAt st j ≡ pathAt st i ++ (x ∷ [])
+  pub slot : HasSlot st (pathAt st i ++ (x ∷ [])) (slotAt st j)
+  pub node : look (state st .tree) (pathAt st i ++ (x ∷ [])) ≡ some (nodeAt st (slotAt st j))
 
--- paths behind an entry that stands in for another
-meets-path : (c p : Path) (rs : List Row) → Meets c p rs → (j : ℕ) → j < length rs → pathAt c rs j ≡ pathAt p rs j
-unfolding lastPath
-meets-path c p [] m j l = absurd (omega (arith, l))
-meets-path c p (r ∷ rs) m j l = ap (λ (v : Path). lastPath v (take j rs)) (m .1)
+-- the directory at record i has no entry x; one may stand before record j, and o is the offset of its name
+pub record MissingGap (st : Store) (i : ℕ) (x : Name) (j o : ℕ) : Type 0 where
+  pub after : i < j
+  pub within : j ≤ count st
+  pub offset : o ≡ nameTotal (take j (live st))
+  pub deep : depthOf (getD (st .records) i 0) + 1 ≡ suc (length (pathAt st i))
+  pub gap : Gap (kindAt st) (take j (rowsOf st)) (drop j (rowsOf st)) (pathAt st i) x
+  pub missing : look (state st .tree) (pathAt st i ++ (x ∷ [])) ≡ none
 
--- the tree behind it
-meets-tree : (f : ℕ → Node) (c p : Path) (rs : List Row) → Meets c p rs → treeFrom f c rs ≡ treeFrom f p rs
-unfolding treeFrom
-meets-tree f c p [] m = refl
-meets-tree f c p (r ∷ rs) m = ap (λ (v : Path). (v, f (r .slot)) ∷ treeFrom f v rs) (m .1)
+-- the directory at record i, and what `find_child` is asked
+module _ (st : Store) (l : Lawful st) (i : ℕ) (h : i < count st) (d : kindAt st (slotAt st i) ≡ 1) (x : Name) (o : ℕ) (e : o ≡ nameTotal (take (i + 1) (st .records))) where
+  abbrev q : Path
+  q = pathAt st i
 
-module _ (kind : ℕ → ℕ) (n : ℕ) where
-  -- a walk behind it
-  meets-walk : (c p : Path) (d e : Bool) (rs : List Row) → Meets c p rs → walkOk kind n p d rs ≡ true → walkOk kind n c e rs ≡ true
-  unfolding walkOk
-  meets-walk c p d e [] m h = refl
-  meets-walk c p d e (r ∷ rs) m h =
-      let s = step kind n p d r rs h in
-      walk-cons kind n c e r rs (record { slot = s .slot; name = s .name; follow = m .0 e; rest = ap (λ (v : Path). walkOk kind n v (eqb (kind (r .slot)) 1) rs) (m .1) ∙ s .rest })
+  abbrev behind : List Row
+  behind = drop (suc i) (rowsOf st)
 
-  -- entries before the i-th have paths before what the last of these is before
-  earlier : (p : Path) (d : Bool) (rs : List Row) (g : Path) → walkOk kind n p d rs ≡ true → (m i : ℕ) → m < i → i ≤ length rs
-      → pathLess (lastPath p (take i rs)) g ≡ true → pathLess (pathAt p rs m) g ≡ true
-  earlier p d rs g h m zero l k z = absurd (omega (arith, l))
-  earlier p d rs g h m (suc i) l k z = go (ltb m i) refl
-    where
-      go : (b : Bool) → ltb m i ≡ b → pathLess (pathAt p rs m) g ≡ true
-      go true e = path-transitive (pathAt p rs m) (pathAt p rs i) g (ordered kind n p d rs h m i (ltb-true m i e) (omega (arith, k))) z
-      go false e = let a : m ≡ i = omega (arith, l, ltb-false m i e) in ap (λ (v : ℕ). pathLess (pathAt p rs v) g) a ∙ z
+  is-dir : dirAfter (kindAt st) false (take (suc i) (rowsOf st)) ≡ true
+  is-dir = dir-next st l i h ∙ eq-eqb (kindAt st (slotAt st i)) 1 d
 
-  module _ (q : Path) (x : Name) (rs : List Row) (h : walkOk kind n q true rs ≡ true) (k o : ℕ) where
-    -- what the answer says
-    pub says : (w : Place) → findIn (length q) x rs k o ≡ w → Says kind q x q true rs k o w
-    says w e = rw (← e) (scans kind n q x q true rs k o (record { rest = []; is = sym (append-nil q); early = refl }) h)
+  abbrev asked : Place
+  asked = findIn (depthOf (getD (st .records) i 0)) x (drop (i + 1) (rowsOf st)) (i + 1) o
 
-    module _ (j b : ℕ) (m : MissingAt kind q x q true rs k o j b) where
-      -- the paths before the place, and from there on
-      pub paths-before : (i : ℕ) → i < m .index → pathLess (pathAt q rs i) (q ++ (x ∷ [])) ≡ true
-      paths-before i l =
-          earlier q true rs (q ++ (x ∷ [])) h i (m .index) l (m .within)
-          (ap (pathLess (lastPath q (take (m .index) rs))) (sym (m .path)) ∙ rise-one (lastPath q (take (m .index) rs)) (lastDir kind true (take (m .index) rs)) (suc (length q)) x (m .follow))
+  says : (w : Place) → w ≡ asked → Says (kindAt st) q x q true behind (suc i) o w
+  says w z =
+      let s = scans (kindAt st) (length (st .heads)) q x q true behind (suc i) o (fits-first q x) (subst (λ (b : Bool). T (walkOk (kindAt st) (length (st .heads)) q b behind)) is-dir (walk-behind st l i)) in
+      let y : findIn (length q) x behind (suc i) o ≡ w =
+      ap (λ (k : ℕ). findIn k x behind (suc i) o) (path-depth st l i h) ∙ ap (λ (k : ℕ). findIn (depthOf (getD (st .records) i 0)) x (drop k (rowsOf st)) k o) (sym (add-one i)) ∙ sym z in
+      subst (λ (v : Place). Says (kindAt st) q x q true behind (suc i) o v) y s
 
-      pub paths-behind : (i : ℕ) → m .index ≤ i → i < length rs → pathLess (q ++ (x ∷ [])) (pathAt q rs i) ≡ true
-      paths-behind i l g =
-          let c : Path = q ++ (x ∷ []) in
-          let p : Path = lastPath q (take (m .index) rs) in
-          let t : List Row = drop (m .index) rs in
-          let f : ℕ = i - m .index in
-          let w : f < length t = omega (arith, g, l, length-drop (m .index) rs) in
-          let e : pathAt q rs i ≡ pathAt c t f =
-          ap (pathAt q rs) (let z : i ≡ m .index + f = omega (arith, l) in z) ∙ path-at-drop q rs (m .index) f ∙ sym (meets-path c p t (m .meets) f w) in
-          ap (pathLess c) e ∙ rises kind n c true t (meets-walk c p (lastDir kind true (take (m .index) rs)) true t (m .meets) (walk-drop kind n q true rs (m .index) h)) f w
+  -- the offset, by the names that were passed
+  offset-of : (j b a : ℕ) → j ≡ suc i + a → b ≡ o + nameSum (take a behind) → b ≡ nameTotal (take j (live st))
+  offset-of j b a z y =
+      let first : nameTotal (take (suc i) (live st)) ≡ o = total-live st l (suc i) (omega (arith, h)) ∙ ap (λ (k : ℕ). nameTotal (take k (st .records))) (sym (add-one i)) ∙ sym e in
+      let rest = name-offset (suc i) a (live st) (st .bytes) (omega (arith, l .space, l .exact .bytes)) in
+      rw z (omega (arith, y, first, rest))
 
-      -- none is it
-      pub none-has : (i : ℕ) → i < length rs → pathAt q rs i ≡ q ++ (x ∷ []) → ⊥
-      none-has i l e = go (ltb i (m .index)) refl
-        where
-          go : (b : Bool) → ltb i (m .index) ≡ b → ⊥
-          go true z = never-same (pathAt q rs i) (q ++ (x ∷ [])) (paths-before i (ltb-true i (m .index) z)) e
-          go false z = never-same (q ++ (x ∷ [])) (pathAt q rs i) (paths-behind i (ltb-false i (m .index) z) l) (sym e)
+  behind-long : suc i + length behind ≡ count st
+  behind-long = omega (arith, h, length-drop (suc i) (rowsOf st), rows-long st l)
 
-      -- the entries with a new one, of depth length q + 1 and name x, at the place
-      module _ (r : Row) (t : r .depth ≡ suc (length q)) (y : r .name ≡ x) where
-        abbrev pub put : List Row
-        put = take (m .index) rs ++ (r ∷ drop (m .index) rs)
+  pub found-slot : (j b : ℕ) → Found j b ≡ asked → FoundSlot st i x j b
+  found-slot j b z =
+      let f = says (Found j b) z in
+      let g : j < count st = omega (arith, f .at, f .within, behind-long) in
+      let k : suc j ≡ suc i + suc (f .index) = omega (arith, f .at) in
+      let p : pathAt st j ≡ q ++ (x ∷ []) =
+      ap (λ (m : ℕ). pathAfter [] (take m (rowsOf st))) k ∙ ap (pathAfter []) (take-add (suc i) (suc (f .index)) (rowsOf st)) ∙ after-both [] (take (suc i) (rowsOf st)) (take (suc (f .index)) behind) ∙ f .path in
+      record {
+        after = omega (arith, f .at);
+        within = g;
+        offset = offset-of j b (f .index) (f .at) (f .offset);
+        path = p;
+        slot = subst (λ (u : Path). HasSlot st u (slotAt st j)) p (path-slot st l j g);
+        node = subst (λ (u : Path). look (state st .tree) u ≡ some (nodeAt st (slotAt st j))) p (path-look st l j g);
+      }
 
-        new-path : pathOf (lastPath q (take (m .index) rs)) r ≡ q ++ (x ∷ [])
-        new-path = rw (t, y) (m .path)
+  gap-at : (j b : ℕ) → MissingAt (kindAt st) q x q true behind (suc i) o j b → Gap (kindAt st) (take j (rowsOf st)) (drop j (rowsOf st)) q x
+  gap-at j b m =
+      let a = take (m .index) behind in
+      let t : take j (rowsOf st) ≡ take (suc i) (rowsOf st) ++ a = ap (λ (k : ℕ). take k (rowsOf st)) (m .at) ∙ take-add (suc i) (m .index) (rowsOf st) in
+      let p : pathAfter q a ≡ pathAfter [] (take j (rowsOf st)) = sym (ap (pathAfter []) t ∙ after-both [] (take (suc i) (rowsOf st)) a) in
+      let v : dirAfter (kindAt st) true a ≡ dirAfter (kindAt st) false (take j (rowsOf st)) =
+      sym (ap (dirAfter (kindAt st) false) t ∙ dir-both (kindAt st) false (take (suc i) (rowsOf st)) a ∙ ap (λ (b : Bool). dirAfter (kindAt st) b a) is-dir) in
+      record {
+        within = subst (λ (u : Path). take (length q) u ≡ q) p (m .fits .within);
+        follows = subst (λ (b : Bool). T (follows (pathAfter [] (take j (rowsOf st))) b (suc (length q)) x)) v (subst (λ (u : Path). T (follows u (dirAfter (kindAt st) true a) (suc (length q)) x)) p (m .fits .follows));
+        behind = subst (Behind (q ++ (x ∷ []))) (drop-drop (m .index) (suc i) (rowsOf st) ∙ ap (λ (k : ℕ). drop k (rowsOf st)) (sym (m .at))) (m .behind);
+      }
 
-        pub put-walk : r .slot < n → nameOk x ≡ true → walkOk kind n q true put ≡ true
-        put-walk l a =
-            let p : Path = lastPath q (take (m .index) rs) in
-            let d : Bool = lastDir kind true (take (m .index) rs) in
-            walk-append kind n q true (take (m .index) rs) (r ∷ drop (m .index) rs) (walk-take kind n q true rs (m .index) h)
-            (walk-cons kind n p d r (drop (m .index) rs)
-            (record { slot = l; name = rw y a; follow = rw (t, y) (m .follow); rest = rw new-path (meets-walk (q ++ (x ∷ [])) p d (eqb (kind (r .slot)) 1) (drop (m .index) rs) (m .meets) (walk-drop kind n q true rs (m .index) h)) }))
+  none-at : (j : ℕ) → i < j → j ≤ count st → Gap (kindAt st) (take j (rowsOf st)) (drop j (rowsOf st)) q x → look (state st .tree) (q ++ (x ∷ [])) ≡ none
+  none-at j a b g =
+      let n = length (st .heads) in
+      ap (λ (rs : List Row). look (treeFrom (nodeAt st) [] rs) (q ++ (x ∷ []))) (sym (take-append-drop j (rowsOf st)))
+      ∙ gap-none (kindAt st) n (take j (rowsOf st)) (drop j (rowsOf st)) q x g (nodeAt st) (subst (λ (rs : List Row). T (rowsOk (kindAt st) n rs)) (sym (take-append-drop j (rowsOf st))) (l .entries)) (slotAt st i) (slot-low st l i h)
+      (λ z. omega (arith, a, ap length z, length-take-le j (rowsOf st) (omega (arith, b, rows-long st l))))
 
-        pub put-tree : (f : ℕ → Node) → treeFrom f q put ≡ treeFrom f q (take (m .index) rs) ++ ((q ++ (x ∷ []), f (r .slot)) ∷ treeFrom f (lastPath q (take (m .index) rs)) (drop (m .index) rs))
-        unfolding treeFrom
-        put-tree f =
-            let p : Path = lastPath q (take (m .index) rs) in
-            tree-append f q (take (m .index) rs) (r ∷ drop (m .index) rs)
-            ∙ ap (_++_ (treeFrom f q (take (m .index) rs))) (rw new-path (ap (_∷_ (q ++ (x ∷ []), f (r .slot))) (meets-tree f (q ++ (x ∷ [])) p (drop (m .index) rs) (m .meets))))
-
-    -- an entry that has the path is found
-    pub found-where : (i : ℕ) → i < length rs → pathAt q rs i ≡ q ++ (x ∷ []) → findIn (length q) x rs k o ≡ Found (k + i) (o + namesLength (take i rs))
-    found-where i l e = go (findIn (length q) x rs k o) refl
-      where
-        at : (j b : ℕ) → FoundAt q x q rs k o j b → Found j b ≡ Found (k + i) (o + namesLength (take i rs))
-        at j b f =
-            let z : f .index ≡ i = unique kind n q true rs h (f .index) i (f .within) l (f .path ∙ sym e) in
-            ap (λ (v : ℕ). Found v b) (f .at ∙ ap (_+_ k) z) ∙ ap (Found (k + i)) (f .offset ∙ ap (λ (v : ℕ). o + namesLength (take v rs)) z)
-
-        go : (w : Place) → findIn (length q) x rs k o ≡ w → findIn (length q) x rs k o ≡ Found (k + i) (o + namesLength (take i rs))
-        go (Found j b) z = z ∙ at j b (says (Found j b) z)
-        go (Missing j b) z = absurd (none-has j b (says (Missing j b) z) i l e)
+  pub missing-gap : (j b : ℕ) → Missing j b ≡ asked → MissingGap st i x j b
+  missing-gap j b z =
+      let m = says (Missing j b) z in
+      let a : i < j = omega (arith, m .at) in
+      let c : j ≤ count st = omega (arith, m .at, m .within, behind-long) in
+      record {
+        after = a;
+        within = c;
+        offset = offset-of j b (m .index) (m .at) (m .offset);
+        deep = omega (arith, path-depth st l i h);
+        gap = gap-at j b m;
+        missing = none-at j a c (gap-at j b m);
+      }

@@ -1,16 +1,15 @@
--- The entries from record j on: the entry of record j, and those from the next record on. Names stand one behind the other, so
--- the names of these begin behind all names before them.
+-- The words from record j on: the word of record j, and those from the next record on; and the names, which stand one behind the
+-- other.
 -- Assumes nothing.
-use mathlib.Core.Path.{_≡_, refl, ap, _∙_}
+use mathlib.Core.Path.{_≡_, ap, _∙_}
 use mathlib.Core.List.{List, [], _∷_}
-use Prim.Native.Nat.{ℕ, zero, suc, _+_, _≤_, _<_}
-use native.Mathlib.Nat.{zero-add}
+use Prim.Native.Nat.{ℕ, suc, _+_, _≤_, _<_}
 use native.Mathlib.Omega.{arith}
 use lib.ListN.{length, take, drop, getD, length-drop, drop-of-length-le}
-use lib.Seq.{drop-drop, drop-cons, getD-take, length-take-le}
+use lib.Seq.{drop-cons, getD-take, length-take-le}
 use Rattle.text.specs.Utf8.{Bytes}
 use Rattle.layout.specs.Fields.{nlenOf}
-use Rattle.layout.specs.Rows.{rows, nameTotal}
+use Rattle.layout.specs.Rows.{nameTotal}
 
 -- the words of the first n records, from record j on
 abbrev pub from : List ℕ → ℕ → ℕ → List ℕ
@@ -27,22 +26,9 @@ from-end ws n j h l = drop-of-length-le (take n ws) {i = j} (omega (arith, lengt
 pub from-length : (ws : List ℕ) (n j : ℕ) → n ≤ length ws → j ≤ n → j + length (from ws n j) ≡ n
 from-length ws n j h l = omega (arith, length-take-le n ws h, length-drop j (take n ws))
 
-pub names-split : (j : ℕ) (ws : List ℕ) → nameTotal (take j ws) + nameTotal (drop j ws) ≡ nameTotal ws
-unfolding nameTotal
-names-split zero ws = zero-add (nameTotal ws)
-names-split (suc j) [] = refl
-names-split (suc j) (w ∷ ws) = omega (arith, names-split j ws)
-
 pub names-at : (ws : List ℕ) (n j : ℕ) → n ≤ length ws → j < n → nameTotal (from ws n j) ≡ nlenOf (getD ws j 0) + nameTotal (from ws n (suc j))
 unfolding nameTotal
 names-at ws n j h l = ap nameTotal (from-at ws n j h l)
-
--- the entries from j on are those of the words from j on
-pub rows-drop : (j : ℕ) (ws : List ℕ) (bs : Bytes) → drop j (rows ws bs) ≡ rows (drop j ws) (drop (nameTotal (take j ws)) bs)
-unfolding rows nameTotal
-rows-drop zero ws bs = refl
-rows-drop (suc j) [] bs = refl
-rows-drop (suc j) (w ∷ ws) bs = rows-drop j ws (drop (nlenOf w) bs) ∙ ap (rows (drop j ws)) (drop-drop (nameTotal (take j ws)) (nlenOf w) bs)
 
 -- a name that stands within the bytes has its length
 pub name-length : (bs : Bytes) (o n : ℕ) → o + n ≤ length bs → length (take n (drop o bs)) ≡ n

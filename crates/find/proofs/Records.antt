@@ -1,184 +1,172 @@
--- The laws of places and blocks, said of the records of a store whose entries obey the rules: each record is the first of a walk
--- behind its own path, which has as many names as the record says. So the paths of all records rise, and what holds behind one
--- record holds among all.
+-- The records of a lawful store: the entries are those before record i, its own and those behind it, which are a walk behind its
+-- path. So the path of a record has as many names as the record says, a look finds its slot there, and whatever a look finds is the
+-- entry of a record.
 -- Assumes nothing.
-use mathlib.Core.Bool.{Bool, true, false, _&&_}
+use mathlib.Core.Bool.{Bool, true, false}
 use mathlib.Core.List.{List, [], _∷_, _++_}
-use mathlib.Core.Path.{_≡_, refl, sym, ap, _∙_}
-use Prim.Native.Nat.{ℕ, zero, suc, _+_, _-_, _≤_, _<_}
+use mathlib.Core.Logic.{inl, inr}
+use mathlib.Core.Option.{some}
+use mathlib.Core.Path.{_≡_, sym, ap, _∙_, subst}
+use Prim.Native.Nat.{ℕ, zero, suc, _+_, _≤_, _<_}
 use native.Mathlib.Numerals.{add-one}
 use native.Mathlib.Omega.{arith}
-use lib.Dec.{ltb, eqb}
-use lib.ListN.{length, take, drop, getD, length-drop}
-use lib.Seq.{length-take-le, drop-drop}
-use borrow.Author.Tests.{ltb-true, ltb-false, eqb-true, eq-eqb}
-use Rattle.text.specs.Utf8.{Bytes}
-use Rattle.path.specs.Path.{Name}
-use Rattle.model.specs.Tree.{Path}
-use Rattle.model.specs.Prog.{isNil}
-use Rattle.layout.specs.Fields.{depthOf, nlenOf, slotOf}
-use Rattle.layout.specs.Rows.{Row, nameTotal, rows, pathBy}
-use Rattle.layout.specs.Lawful.{walkOk, rowsOk}
-use Rattle.find.specs.declared.Place.{Place}
-use Rattle.find.specs.Finds.{findIn}
-use Rattle.find.specs.Totals.{span, Slotted}
-use Rattle.find.specs.Paths.{lastPath, pathAt, namesLength, deeper, pathLess}
-use Rattle.find.proofs.PathOrder.{never-same, less-on, not-under}
-use Rattle.find.proofs.Reading.{names-split, rows-drop}
-use Rattle.find.proofs.Walks.{both, step, path-length, rises}
-use Rattle.find.proofs.Finding.{MissingAt, Says}
-use Rattle.find.proofs.Places.{path-at-drop, says, none-has}
-use Rattle.find.proofs.Under.{Under, under-self}
-use Rattle.find.proofs.Blocks.{span-rows, inside, outside}
+use lib.Dec.{T, eqb}
+use lib.ListN.{length, take, drop, getD, take-append-drop}
+use lib.Seq.{drop-drop, take-add, getD-take, take-take}
+use borrow.Author.Tests.{eq-eqb}
+use Rattle.path.proofs.Laws.{and-left, and-right}
+use Rattle.model.specs.Tree.{Path, Node, file, look}
+use Rattle.layout.specs.Fields.{depthOf}
+use Rattle.layout.specs.Rows.{Row, nameTotal, rows, pathBy, pathOf, treeFrom}
+use Rattle.layout.specs.Store.{Store, count, live, rowsOf, kindAt, nodeAt, state}
+use Rattle.layout.specs.Lawful.{walkOk, rootOk, rowsOk, Lawful}
+use Rattle.layout.specs.Alike.{HasSlot}
+use Rattle.layout.proofs.Named.{length-rows, rows-drop}
+use Rattle.layout.proofs.Rising.{follows-by, next-length}
+use Rattle.layout.proofs.Walks.{At, look-at, at-slot}
+use Rattle.layout.proofs.Roots.{root-of, all-slots, all-look}
+use Rattle.layout.proofs.Used.{live-length}
+use Rattle.views.specs.Parts.{pathAfter, dirAfter}
+use Rattle.views.proofs.Parted.{walk-both, after-both, dir-both}
+use Rattle.views.proofs.Inserting.{root-is}
+use Rattle.views.proofs.Removing.{walk-follows}
+use Rattle.views.proofs.Blocked.{at-seam}
+use Rattle.find.specs.Totals.{Slotted}
+use Rattle.find.specs.Paths.{slotAt, rowAt, pathAt}
+use Rattle.find.proofs.Reading.{from-at}
 
-pub length-rows : (ws : List ℕ) (bs : Bytes) → length (rows ws bs) ≡ length ws
-unfolding rows
-length-rows [] bs = refl
-length-rows (w ∷ ws) bs = ap suc (length-rows ws (drop (nlenOf w) bs))
-
--- the first entries are those of the first records
-pub rows-take : (i : ℕ) (ws : List ℕ) (bs : Bytes) → take i (rows ws bs) ≡ rows (take i ws) bs
-unfolding rows
-rows-take zero ws bs = refl
-rows-take (suc i) [] bs = refl
-rows-take (suc i) (w ∷ ws) bs = ap (_∷_ (record { depth = depthOf w; name = take (nlenOf w) bs; slot = slotOf w })) (rows-take i ws (drop (nlenOf w) bs))
-
--- names that stand within the bytes have their lengths
-pub names-length : (ws : List ℕ) (bs : Bytes) → nameTotal ws ≤ length bs → namesLength (rows ws bs) ≡ nameTotal ws
-unfolding rows nameTotal namesLength
-names-length [] bs h = refl
-names-length (w ∷ ws) bs h =
-    omega (arith, length-take-le (nlenOf w) bs (omega (arith, h)), names-length ws (drop (nlenOf w) bs) (omega (arith, h, length-drop (nlenOf w) bs)))
-
--- the offset of the name of record m + a, by that of record m
-pub offset-at : (m a : ℕ) (ws : List ℕ) (bs : Bytes) → nameTotal ws ≤ length bs
-    → nameTotal (take m ws) + namesLength (take a (drop m (rows ws bs))) ≡ nameTotal (take (m + a) ws)
-offset-at m a ws bs h =
-    let t : List ℕ = drop m ws in
-    let c : Bytes = drop (nameTotal (take m ws)) bs in
-    let u = names-split m ws in
-    let v = names-split a t in
-    let w = names-split (m + a) ws in
-    let x : drop a t ≡ drop (m + a) ws = drop-drop a m ws in
-    let e : take a (drop m (rows ws bs)) ≡ rows (take a t) c = ap (take a) (rows-drop m ws bs) ∙ rows-take a t c in
-    let y : namesLength (rows (take a t) c) ≡ nameTotal (take a t) = names-length (take a t) c (omega (arith, h, u, v, length-drop (nameTotal (take m ws)) bs)) in
-    omega (arith, u, v, w, ap nameTotal x, ap namesLength e, y)
-
--- what lies deeper behind record i
-deeper-at : (d i : ℕ) (ws : List ℕ) (bs : Bytes) → deeper d (drop (suc i) (rows ws bs)) ≡ span d (drop (i + 1) ws)
-deeper-at d i ws bs = ap (deeper d) (rows-drop (suc i) ws bs) ∙ sym (span-rows d (drop (suc i) ws) (drop (nameTotal (take (suc i) ws)) bs)) ∙ ap (λ (v : ℕ). span d (drop v ws)) (sym (add-one i))
+-- ---- rows
 
 module _ (kind : ℕ → ℕ) (n : ℕ) where
-  -- what the rules say of record i, behind an entry of path p
-  pub record At (p : Path) (ws : List ℕ) (bs : Bytes) (i : ℕ) : Type 0 where
-    pub depth : length (pathAt p (rows ws bs) i) ≡ depthOf (getD ws i 0)
-    pub slot : slotOf (getD ws i 0) < n
-    pub walk : walkOk kind n (pathAt p (rows ws bs) i) (eqb (kind (slotOf (getD ws i 0))) 1) (drop (suc i) (rows ws bs)) ≡ true
+  -- what stands behind entry i is a walk
+  walk-from : (rs : List Row) → T (rowsOk kind n rs) → (i : ℕ) → T (walkOk kind n (pathAfter [] (take (suc i) rs)) (dirAfter kind false (take (suc i) rs)) (drop (suc i) rs))
+  unfolding walkOk pathAfter dirAfter
+  walk-from [] t i = tt
+  walk-from (r ∷ rs) t i =
+      let o = root-of kind n r rs t in
+      let w = and-right (walkOk kind n [] true (take i rs)) _ (subst T (ap (walkOk kind n [] true) (sym (take-append-drop i rs)) ∙ walk-both kind n [] true (take i rs) (drop i rs)) (o .rest)) in
+      subst (λ (p : Path). T (walkOk kind n (pathAfter p (take i rs)) (dirAfter kind (eqb (kind (r .slot)) 1) (take i rs)) (drop i rs))) (sym (o .path))
+      (subst (λ (d : Bool). T (walkOk kind n (pathAfter [] (take i rs)) (dirAfter kind d (take i rs)) (drop i rs))) (sym (eq-eqb (kind (r .slot)) 1 (o .isDir))) w)
 
-  walk-at : (p : Path) (d : Bool) (ws : List ℕ) (bs : Bytes) → walkOk kind n p d (rows ws bs) ≡ true → (i : ℕ) → i < length ws → At p ws bs i
-  unfolding rows lastPath
-  walk-at p d [] bs h i l = absurd (omega (arith, l))
-  walk-at p d (w ∷ ws) bs h zero l =
-      let s = step kind n p d (record { depth = depthOf w; name = take (nlenOf w) bs; slot = slotOf w }) (rows ws (drop (nlenOf w) bs)) h in
-      record { depth = path-length p d (depthOf w) (take (nlenOf w) bs) (s .follow); slot = s .slot; walk = s .rest }
-  walk-at p d (w ∷ ws) bs h (suc i) l =
-      let s = step kind n p d (record { depth = depthOf w; name = take (nlenOf w) bs; slot = slotOf w }) (rows ws (drop (nlenOf w) bs)) h in
-      let a = walk-at (pathBy (depthOf w) p (take (nlenOf w) bs)) (eqb (kind (slotOf w)) 1) ws (drop (nlenOf w) bs) (s .rest) i (omega (arith, l)) in
-      record { depth = a .depth; slot = a .slot; walk = a .walk }
+-- the place of an entry
+pub record Index (p : Path) (rs : List Row) (q : Path) (r : Row) : Type 0 where
+  pub place : ℕ
+  pub within : place < length rs
+  pub path : pathAfter p (take (suc place) rs) ≡ q
+  pub row : (rest : List Row) × (drop place rs ≡ r ∷ rest)
 
-  pub record-at : (ws : List ℕ) (bs : Bytes) → rowsOk kind n (rows ws bs) ≡ true → (i : ℕ) → i < length ws → At [] ws bs i
-  unfolding rows lastPath rowsOk
-  record-at [] bs h i l = absurd (omega (arith, l))
-  record-at (w ∷ ws) bs h i l = go i l
-    where
-      name : Name
-      name = take (nlenOf w) bs
+index-of : (p : Path) (rs : List Row) (q : Path) (r : Row) → At p rs q r → Index p rs q r
+unfolding pathAfter
+index-of p [] q r a = absurd a
+index-of p (s ∷ rs) q r (inl e) = record { place = 0; within = omega arith; path = e .0; row = (rs, ap (λ (x : Row). x ∷ rs) (e .1)) }
+index-of p (s ∷ rs) q r (inr a) =
+    let i = index-of (pathOf p s) rs q r a in
+    record { place = suc (i .place); within = omega (arith, i .within); path = i .path; row = i .row }
 
-      rest : List Row
-      rest = rows ws (drop (nlenOf w) bs)
+first-of : (a b : Row) (u v : List Row) → a ∷ u ≡ b ∷ v → a ≡ b
+first-of a b u v e = cc
 
-      a : (eqb (depthOf w) 0 && (isNil name && (ltb (slotOf w) n && eqb (kind (slotOf w)) 1)) ≡ true) × (walkOk kind n [] true rest ≡ true)
-      a = both (eqb (depthOf w) 0 && (isNil name && (ltb (slotOf w) n && eqb (kind (slotOf w)) 1))) (walkOk kind n [] true rest) h
+-- ---- records
 
-      b : (eqb (depthOf w) 0 ≡ true) × (isNil name && (ltb (slotOf w) n && eqb (kind (slotOf w)) 1) ≡ true)
-      b = both (eqb (depthOf w) 0) (isNil name && (ltb (slotOf w) n && eqb (kind (slotOf w)) 1)) (a .0)
+module _ (st : Store) (l : Lawful st) where
+  abbrev kinds : ℕ → ℕ
+  kinds = kindAt st
 
-      c : (ltb (slotOf w) n ≡ true) × (eqb (kind (slotOf w)) 1 ≡ true)
-      c = both (ltb (slotOf w) n) (eqb (kind (slotOf w)) 1) (both (isNil name) (ltb (slotOf w) n && eqb (kind (slotOf w)) 1) (b .1) .1)
+  abbrev slots : ℕ
+  slots = length (st .heads)
 
-      root : pathBy (depthOf w) [] name ≡ []
-      root = ap (λ (v : ℕ). pathBy v [] name) (eqb-true (depthOf w) 0 (b .0))
+  pub rows-long : length (rowsOf st) ≡ count st
+  rows-long = length-rows (live st) (st .bytes) ∙ live-length st l
 
-      behind : walkOk kind n (pathBy (depthOf w) [] name) (eqb (kind (slotOf w)) 1) rest ≡ true
-      behind = ap (λ (v : Path). walkOk kind n v (eqb (kind (slotOf w)) 1) rest) root ∙ ap (λ (v : Bool). walkOk kind n [] v rest) (c .1) ∙ a .1
+  -- the names of the first are read from the records
+  pub total-live : (i : ℕ) → i ≤ count st → nameTotal (take i (live st)) ≡ nameTotal (take i (st .records))
+  total-live i h = ap nameTotal (take-take i (count st) (st .records) h)
 
-      go : (i : ℕ) → i < suc (length ws) → At [] (w ∷ ws) bs i
-      go zero l = record { depth = ap length root ∙ sym (eqb-true (depthOf w) 0 (b .0)); slot = ltb-true (slotOf w) n (c .0); walk = behind }
-      go (suc i) l =
-          let z = walk-at (pathBy (depthOf w) [] name) (eqb (kind (slotOf w)) 1) ws (drop (nlenOf w) bs) behind i (omega (arith, l)) in
-          record { depth = z .depth; slot = z .slot; walk = z .walk }
+  -- the walk behind record i
+  pub walk-behind : (i : ℕ) → T (walkOk kinds slots (pathAt st i) (dirAfter kinds false (take (suc i) (rowsOf st))) (drop (suc i) (rowsOf st)))
+  walk-behind i = walk-from kinds slots (rowsOf st) (l .entries) i
 
-  module _ (ws : List ℕ) (bs : Bytes) (h : rowsOk kind n (rows ws bs) ≡ true) where
-    -- the path of record i
-    abbrev pub path : ℕ → Path
-    path i = pathAt [] (rows ws bs) i
+  module _ (i : ℕ) (h : i < count st) where
+    pub rest-at : drop i (rowsOf st) ≡ rowAt st i ∷ drop (suc i) (rowsOf st)
+    unfolding rows
+    rest-at =
+        let e = sym (rows-drop (live st) (st .bytes) i) ∙ ap (λ (ws : List ℕ). rows ws (drop (nameTotal (take i (live st))) (st .bytes))) (from-at (st .records) (count st) i (omega (arith, l .exact .records, l .counted)) h) in
+        let o : suc i ≡ i + 1 = omega arith in
+        let f = ap (λ (k : ℕ). drop k (rowsOf st)) o ∙ sym (drop-drop 1 i (rowsOf st)) ∙ ap (drop 1) e in
+        e ∙ ap (λ (rs : List Row). rowAt st i ∷ rs) (sym f)
 
-    -- each slot is one of n
-    pub slotted : (hs : List ℕ) → length hs ≡ n → Slotted hs ws
-    slotted hs e i l = rw e (record-at ws bs h i l .slot)
+    pub parts-at : rowsOf st ≡ take i (rowsOf st) ++ (rowAt st i ∷ drop (suc i) (rowsOf st))
+    parts-at = sym (take-append-drop i (rowsOf st)) ∙ ap (λ (rs : List Row). take i (rowsOf st) ++ rs) rest-at
 
-    -- the path of a later record, behind record i
-    later-path : (i j : ℕ) → i < j → path j ≡ pathAt (path i) (drop (suc i) (rows ws bs)) (j - suc i)
-    later-path i j l = ap path (let z : j ≡ suc i + (j - suc i) = omega (arith, l) in z) ∙ path-at-drop [] (rows ws bs) (suc i) (j - suc i)
+    upto : take (suc i) (rowsOf st) ≡ take i (rowsOf st) ++ (rowAt st i ∷ [])
+    upto = ap (λ (k : ℕ). take k (rowsOf st)) (sym (add-one i)) ∙ take-add i 1 (rowsOf st) ∙ ap (λ (rs : List Row). take i (rowsOf st) ++ take 1 rs) rest-at
 
-    later-in : (i j : ℕ) → i < j → j < length ws → j - suc i < length (drop (suc i) (rows ws bs))
-    later-in i j l m = omega (arith, l, m, length-drop (suc i) (rows ws bs), length-rows ws bs)
+    pub path-next : pathAt st i ≡ pathOf (pathAfter [] (take i (rowsOf st))) (rowAt st i)
+    unfolding pathAfter
+    path-next = ap (pathAfter []) upto ∙ after-both [] (take i (rowsOf st)) (rowAt st i ∷ [])
 
-    pub paths-rise : (i j : ℕ) → i < j → j < length ws → pathLess (path i) (path j) ≡ true
-    paths-rise i j l m =
-        ap (pathLess (path i)) (later-path i j l)
-        ∙ rises kind n (path i) (eqb (kind (slotOf (getD ws i 0))) 1) (drop (suc i) (rows ws bs)) (record-at ws bs h i (omega (arith, l, m)) .walk) (j - suc i) (later-in i j l m)
+    pub dir-next : dirAfter kinds false (take (suc i) (rowsOf st)) ≡ eqb (kinds (slotAt st i)) 1
+    unfolding dirAfter
+    dir-next = ap (dirAfter kinds false) upto ∙ dir-both kinds false (take i (rowsOf st)) (rowAt st i ∷ [])
 
-    -- ---- blocks: the records behind record i that `block_end` passes, those behind them, and those before
+    -- ---- the path of a record
 
-    module _ (i : ℕ) (m : i < length ws) where
-      abbrev dir : Bool
-      dir = eqb (kind (slotOf (getD ws i 0))) 1
+    pub path-at : At [] (rowsOf st) (pathAt st i) (rowAt st i)
+    path-at =
+        subst (λ (q : Path). At [] (rowsOf st) q (rowAt st i)) (sym path-next)
+        (subst (λ (rs : List Row). At [] rs (pathOf (pathAfter [] (take i (rowsOf st))) (rowAt st i)) (rowAt st i)) (sym parts-at)
+        (at-seam [] (take i (rowsOf st)) (rowAt st i) (drop (suc i) (rowsOf st))))
 
-      deep : deeper (length (path i)) (drop (suc i) (rows ws bs)) ≡ span (depthOf (getD ws i 0)) (drop (i + 1) ws)
-      deep = ap (λ (v : ℕ). deeper v (drop (suc i) (rows ws bs))) (record-at ws bs h i m .depth) ∙ deeper-at (depthOf (getD ws i 0)) i ws bs
+    pub slot-low : slotAt st i < slots
+    slot-low = at-slot slots [] (rowsOf st) (all-slots kinds slots (rowsOf st) (l .entries)) (pathAt st i) (rowAt st i) path-at
 
-      pub block-in : (j : ℕ) → i < j → j < i + 1 + span (depthOf (getD ws i 0)) (drop (i + 1) ws) → Under (path i) (path j)
-      block-in j l k = rw (later-path i j l) (inside (path i) kind n (path i) dir (drop (suc i) (rows ws bs)) (under-self (path i)) (record-at ws bs h i m .walk) (j - suc i) (omega (arith, l, k, deep)))
+    look-with : (f : ℕ → Node) → look (treeFrom f [] (rowsOf st)) (pathAt st i) ≡ some (f (slotAt st i))
+    look-with f = all-look kinds slots f (rowsOf st) (l .entries) (pathAt st i) (rowAt st i) path-at
 
-      pub block-out : (j : ℕ) → i + 1 + span (depthOf (getD ws i 0)) (drop (i + 1) ws) ≤ j → j < length ws → Under (path i) (path j) → ⊥
-      block-out j k l u =
-          let g : i < j = omega (arith, k) in
-          outside (path i) kind n dir (drop (suc i) (rows ws bs)) (record-at ws bs h i m .walk) (j - suc i) (omega (arith, k, deep)) (later-in i j g l) (rw (later-path i j g) at u)
+    pub path-look : look (state st .tree) (pathAt st i) ≡ some (nodeAt st (slotAt st i))
+    path-look = look-with (nodeAt st)
 
-      pub block-before : (j : ℕ) → j < i → Under (path i) (path j) → ⊥
-      block-before j l u = not-under (path j) (path i) (u .rest) (paths-rise j i l m) (u .is)
+    pub path-slot : HasSlot st (pathAt st i) (slotAt st i)
+    path-slot = look-with file
 
-    -- ---- places: the entry x of the directory at record i
+  -- the root is the first record
+  pub root-depth : 0 < count st → depthOf (getD (st .records) 0 0) ≡ 0
+  unfolding rowsOk
+  root-depth h = root-is kinds slots (rowAt st 0) (and-left (rootOk kinds slots (rowAt st 0)) _ (subst (λ (rs : List Row). T (rowsOk kinds slots rs)) (parts-at 0 h) (l .entries))) .0
 
-    module _ (i : ℕ) (m : i < length ws) (d : kind (slotOf (getD ws i 0)) ≡ 1) (x : Name) (k o : ℕ) where
-      walk-behind : walkOk kind n (path i) true (drop (suc i) (rows ws bs)) ≡ true
-      walk-behind = ap (λ (v : Bool). walkOk kind n (path i) v (drop (suc i) (rows ws bs))) (sym (eq-eqb (kind (slotOf (getD ws i 0))) 1 d)) ∙ record-at ws bs h i m .walk
+  pub root-path : 0 < count st → pathOf [] (rowAt st 0) ≡ []
+  root-path h = ap (λ (k : ℕ). pathBy k [] (rowAt st 0 .name)) (root-depth h)
 
-      -- what an answer of `find_child` says
-      pub find-says : (w : Place) → w ≡ findIn (depthOf (getD ws i 0)) x (drop (i + 1) (rows ws bs)) k o → Says kind (path i) x (path i) true (drop (suc i) (rows ws bs)) k o w
-      find-says w e =
-          says kind n (path i) x (drop (suc i) (rows ws bs)) walk-behind k o w
-          (ap (λ (v : ℕ). findIn v x (drop (suc i) (rows ws bs)) k o) (record-at ws bs h i m .depth) ∙ ap (λ (v : ℕ). findIn (depthOf (getD ws i 0)) x (drop v (rows ws bs)) k o) (sym (add-one i)) ∙ sym e)
+  -- it has as many names as the record says
+  pub path-depth : (i : ℕ) → i < count st → length (pathAt st i) ≡ depthOf (getD (st .records) i 0)
+  unfolding pathAfter
+  path-depth zero h = ap length (path-next zero h ∙ root-path h) ∙ sym (root-depth h)
+  path-depth (suc i) h =
+      let p = pathAt st i in
+      let d = dirAfter kinds false (take (suc i) (rowsOf st)) in
+      let r = rowAt st (suc i) in
+      ap length (path-next (suc i) h)
+      ∙ next-length p d (r .name) (r .depth)
+      (follows-by p d (r .depth) (r .name)
+      (walk-follows kinds slots p d r (drop (suc (suc i)) (rowsOf st)) (subst (λ (rs : List Row). T (walkOk kinds slots p d rs)) (rest-at (suc i) h) (walk-behind i))))
 
-      -- where it is missing no record has its path
-      pub none-at-all : (j b : ℕ) → MissingAt kind (path i) x (path i) true (drop (suc i) (rows ws bs)) k o j b → (a : ℕ) → a < length ws → path a ≡ path i ++ (x ∷ []) → ⊥
-      none-at-all j b z a l e = go (ltb a i) refl (ltb i a) refl
-        where
-          go : (u : Bool) → ltb a i ≡ u → (v : Bool) → ltb i a ≡ v → ⊥
-          go true u v w = not-under (path a) (path i) (x ∷ []) (paths-rise a i (ltb-true a i u) m) e
-          go false u true w =
-              none-has kind n (path i) x (drop (suc i) (rows ws bs)) walk-behind k o j b z (a - suc i) (later-in i a (ltb-true i a w) l) (sym (later-path i a (ltb-true i a w)) ∙ e)
-          go false u false w =
-              let q : a ≡ i = omega (arith, ltb-false a i u, ltb-false i a w) in
-              never-same (path i) (path i ++ (x ∷ [])) (less-on (path i) x []) (sym (ap path q) ∙ e)
+  -- each slot is one of the slots
+  pub slotted : Slotted (st .heads) (live st)
+  slotted i h =
+      let g : i < count st = omega (arith, h, live-length st l) in
+      rw (getD-take (count st) (st .records) i 0 g) (slot-low i g)
+
+  -- what a look finds is the entry of a record
+  pub record Holder (q : Path) (m : Node) : Type 0 where
+    pub index : ℕ
+    pub within : index < count st
+    pub path : pathAt st index ≡ q
+    pub node : nodeAt st (slotAt st index) ≡ m
+
+  pub look-path : (q : Path) (m : Node) → look (state st .tree) q ≡ some m → Holder q m
+  look-path q m e =
+      let y = look-at (nodeAt st) [] (rowsOf st) q m e in
+      let i = index-of [] (rowsOf st) q (y .0) (y .1) in
+      let g : i .place < count st = omega (arith, i .within, rows-long) in
+      let z = first-of (rowAt st (i .place)) (y .0) (drop (suc (i .place)) (rowsOf st)) (i .row .0) (sym (rest-at (i .place) g) ∙ i .row .1) in
+      record { index = i .place; within = g; path = i .path; node = ap (λ (r : Row). nodeAt st (r .slot)) z ∙ y .2 }

@@ -11,12 +11,13 @@ use borrow.Author.Tests.{le-leb, lt-leb, eq-eqb, ne-eqb}
 use Rattle.text.specs.Utf8.{Bytes}
 use Rattle.layout.specs.Fields.{depthOf, nlenOf}
 use Rattle.layout.specs.Rows.{rows, nameTotal}
+use Rattle.layout.proofs.Named.{total-split, rows-drop}
 use Rattle.order.specs.Order.{orderOf}
 use Rattle.order.specs.declared.Order.the-variants.{Less, Same, More}
 use Rattle.find.specs.Finds.{findIn}
 use Rattle.find.specs.declared.Place.{Place}
 use Rattle.find.specs.declared.Place.the-variants.{Found, Missing}
-use Rattle.find.proofs.Reading.{from, from-at, from-end, rows-drop, names-at, names-split, name-length}
+use Rattle.find.proofs.Reading.{from, from-at, from-end, names-at, name-length}
 
 -- the scan, from record j and offset o on
 abbrev pub scan : List ℕ → Bytes → ℕ → ℕ → Bytes → ℕ → ℕ → Place
@@ -32,7 +33,7 @@ pub scan-start : (ws : List ℕ) (bs : Bytes) (n d : ℕ) (x : Bytes) (j o : ℕ
 scan-start ws bs n d x j o l e h =
     let t : take j (take n ws) ≡ take j ws = take-take j n ws l in
     let a : nameTotal (take j ws) ≡ o = sym e in
-    record { room = omega (arith, e, h, rw t at (names-split j (take n ws))); same = rw (rows-drop j (take n ws) bs, t, a) }
+    record { room = omega (arith, e, h, rw t at (total-split (take n ws) j)); same = rw (sym (rows-drop (take n ws) bs j), t, a) }
 
 pub scan-end : (ws : List ℕ) (bs : Bytes) (n d : ℕ) (x : Bytes) (j o : ℕ) → n ≤ length ws → n ≤ j → scan ws bs n d x j o ≡ Missing j o
 unfolding findIn rows

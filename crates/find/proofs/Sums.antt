@@ -21,7 +21,7 @@ pickN-le : (b : Bool) (x : ℕ) → pickN b 0 x ≤ x
 pickN-le true x = zero-le
 pickN-le false x = le-refl x
 
-span-le : (d : ℕ) (ws : List ℕ) → span d ws ≤ length ws
+pub span-le : (d : ℕ) (ws : List ℕ) → span d ws ≤ length ws
 unfolding span
 span-le d [] = zero-le
 span-le d (w ∷ ws) = omega (arith, span-le d ws, pickN-le (leb (depthOf w) d) (suc (span d ws)))

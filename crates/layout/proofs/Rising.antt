@@ -4,28 +4,26 @@
 use mathlib.Core.Bool.{Bool, true, false, _&&_, cond}
 use mathlib.Core.List.{[], _∷_, _++_}
 use mathlib.Core.Logic.{_⊎_, inl, inr}
-use mathlib.Core.Path.{_≡_, refl, sym, _∙_, subst}
+use mathlib.Core.Path.{_≡_, refl, sym, ap, _∙_, subst}
 use Prim.Native.Nat.{ℕ, zero, suc, _<_}
 use native.Mathlib.Omega.{arith}
 use lib.Dec.{T, eqb, ltb, eqb→eq}
-use lib.ListN.{length, take, getD}
-use lib.Seq.{take-length}
-use borrow.Author.Tests.{le-ltb, eq-eqb, ltb-true}
+use lib.ListN.{length, take, getD, length-append}
+use lib.Seq.{take-length, length-take-le}
+use borrow.Author.Tests.{lt-ltb, le-ltb, eq-eqb, ltb-true}
 use Rattle.text.specs.Utf8.{Bytes}
 use Rattle.path.specs.Path.{Name}
 use Rattle.path.proofs.Laws.{and-left, and-right}
 use Rattle.model.specs.Tree.{Path, before}
 use Rattle.model.proofs.Entries.{is-true, of-true}
-use Rattle.model.proofs.Ordering.{joins}
+use Rattle.model.proofs.Ordering.{not-itself, joins}
 use Rattle.layout.specs.Rows.{pathBy}
 use Rattle.layout.specs.Lawful.{follows}
 
 -- ---- names
 
 pub before-self : (x : Bytes) → T (before x x) → ⊥
-unfolding before
-before-self [] t = t
-before-self (a ∷ s) t = before-self s (rw (le-ltb a a (omega arith), eq-eqb a a refl) at t)
+before-self x t = subst T (not-itself x) t
 
 pub before-both : (x y z : Bytes) → T (before x y) → T (before y z) → T (before x z)
 before-both x y z t u = of-true (joins x y z (is-true (before x y) t) (is-true (before y z) u))
@@ -85,6 +83,15 @@ follows-by p d (suc k) x t = go (ltb k (length p)) refl t
     go false e t =
         subst (λ (n : ℕ). Follows p d x (suc n)) (sym (eqb→eq k (length p) (and-left (eqb k (length p)) d t)))
         (below (is-true d (and-right (eqb k (length p)) d t)))
+
+pub by-follows : (p : Path) (d : Bool) (k : ℕ) (x : Name) → Follows p d x k → T (follows p d k x)
+by-follows p d n x (aside k h t) = rw (lt-ltb k (length p) h) t
+by-follows p d n x (below e) = rw (le-ltb (length p) (length p) (omega arith), eq-eqb (length p) (length p) refl, e) tt
+
+-- it has as many names as it says
+pub next-length : (p : Path) (d : Bool) (x : Name) (k : ℕ) → Follows p d x k → length (pathBy k p x) ≡ k
+next-length p d x n (aside k h t) = length-append (take k p) (x ∷ []) ∙ omega (arith, length-take-le k p (omega arith))
+next-length p d x n (below e) = length-append (take (length p) p) (x ∷ []) ∙ omega (arith, ap length (take-length p))
 
 pub rise-next : (p : Path) (d : Bool) (x : Name) (k : ℕ) → Follows p d x k → Rises p (pathBy k p x)
 rise-next p d x k (aside j h t) = rise-aside j p x h t

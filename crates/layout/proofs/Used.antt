@@ -7,18 +7,18 @@ use mathlib.Core.Path.{_≡_, refl, sym, ap, _∙_}
 use Prim.Native.Nat.{ℕ, zero, suc, _+_, _*_, _≤_, _<_}
 use native.Mathlib.Omega.{arith}
 use lib.Dec.{T, eqb}
-use lib.ListN.{length, take, drop, getD, length-drop}
+use lib.ListN.{length, take, getD}
 use lib.Seq.{length-take-le}
-use Rattle.text.specs.Utf8.{Bytes}
 use Rattle.path.specs.Path.{Name}
 use Rattle.model.specs.Tree.{Path, Node, keepIf, nameLength, targetLength, namesAndTargets, contents}
 use Rattle.model.specs.Calls.{bytesUsed, entriesUsed}
 use Rattle.model.proofs.Spacing.{last-name}
-use Rattle.layout.specs.Fields.{nlenOf, lenOf}
+use Rattle.layout.specs.Fields.{lenOf}
 use Rattle.layout.specs.Rows.{Row, nameTotal, rows, pathBy, pathOf, treeFrom}
 use Rattle.layout.specs.Slots.{total}
 use Rattle.layout.specs.Store.{Store, count, live, rowsOf, bytesAt, kindAt, nodeAt, filesFrom, state}
 use Rattle.layout.specs.Lawful.{walkOk, rowsOk, uses, slotOk, Lawful}
+use Rattle.layout.proofs.Named.{length-rows, nameSum, name-sum}
 use Rattle.layout.proofs.Rising.{Follows, aside, below}
 use Rattle.layout.proofs.Walks.{stands-ok, first-ok, rest-ok}
 use Rattle.layout.proofs.Roots.{root-of, all-slots}
@@ -27,11 +27,6 @@ use Rattle.layout.proofs.Slotted.{SlotOf, free, directory, named, remov
 use Rattle.layout.proofs.Sums.{sumFrom, sum-same, sum-both, sum-rows, sumRows}
 
 -- ---- entries
-
-rows-length : (ws : List ℕ) (bs : Bytes) → length (rows ws bs) ≡ length ws
-unfolding rows
-rows-length [] bs = refl
-rows-length (w ∷ ws) bs = ap suc (rows-length ws (drop (nlenOf w) bs))
 
 tree-length : (f : ℕ → Node) (p : Path) (rs : List Row) → length (treeFrom f p rs) ≡ length rs
 unfolding treeFrom
@@ -42,23 +37,9 @@ pub live-length : (st : Store) → Lawful st → length (live st) ≡ count st
 live-length st l = length-take-le (count st) (st .records) (omega (arith, l .exact .records, l .counted))
 
 pub entries-used : (st : Store) → Lawful st → entriesUsed (state st) ≡ count st
-entries-used st l = tree-length (nodeAt st) [] (rowsOf st) ∙ rows-length (live st) (st .bytes) ∙ live-length st l
+entries-used st l = tree-length (nodeAt st) [] (rowsOf st) ∙ length-rows (live st) (st .bytes) ∙ live-length st l
 
 -- ---- names
-
-nameSum : List Row → ℕ
-nameSum [] = 0
-nameSum (r ∷ rs) = length (r .name) + nameSum rs
-
-name-sum : (ws : List ℕ) (bs : Bytes) → nameTotal ws ≤ length bs → nameSum (rows ws bs) ≡ nameTotal ws
-unfolding nameTotal rows nameSum
-name-sum [] bs h = refl
-name-sum (w ∷ ws) bs h =
-    omega (
-      arith,
-      length-take-le (nlenOf w) bs (omega arith),
-      name-sum ws (drop (nlenOf w) bs) (omega (arith, length-drop (nlenOf w) bs)),
-    )
 
 name-next : (p : Path) (d : Bool) (x : Name) (k : ℕ) → Follows p d x k → nameLength (pathBy k p x) ≡ length x
 unfolding nameLength

@@ -54,6 +54,12 @@ one-way (a ∷ s) (b ∷ t) n = go (sides a b) (one-way s t)
     go (equal h) ih = cons-equal a b s t h ∙ ih (λ e. n (let z : a ∷ s ≡ b ∷ t = cc in z)) ∙ ap not (sym (cons-equal b a t s (sym h)))
     go (more h) ih = cons-more a b s t h ∙ ap not (sym (cons-less b a t s h))
 
+-- no name is before itself
+pub not-itself : (x : Bytes) → before x x ≡ false
+unfolding before
+not-itself [] = refl
+not-itself (a ∷ x) = cons-equal a a x x refl ∙ not-itself x
+
 pub joins : (x y z : Bytes) → before x y ≡ true → before y z ≡ true → before x z ≡ true
 unfolding before
 joins [] [] z h k = absurd (false≢true h)

@@ -1,7 +1,7 @@
 -- The order of names by cases. Two names are compared by their first bytes, and where these are the same by the rest; so the
 -- answer is Same for no two different names, and the other two answers exclude each other.
 -- Assumes nothing.
-use mathlib.Core.Bool.{Bool, true, false, false≢true}
+use mathlib.Core.Bool.{Bool, true, false, not, false≢true}
 use mathlib.Core.Path.{_≡_, refl, sym, ap, _∙_}
 use mathlib.Core.List.{[], _∷_}
 use Prim.Native.Nat.{ℕ, suc, _≤_, _<_}
@@ -10,41 +10,20 @@ use lib.ListN.{length, drop, getD, drop-of-length-le}
 use lib.Seq.{drop-cons}
 use Rattle.text.specs.Utf8.{Bytes}
 use Rattle.model.specs.Tree.{before}
-use Rattle.model.proofs.Ordering.{Sides, less, equal, more, sides, cons-less, cons-equal, joins}
+use Rattle.model.proofs.Entries.{name-dec}
+use Rattle.model.proofs.Ordering.{cons-less, cons-equal, one-way, not-itself, joins}
 use Rattle.order.specs.Order.{orderOf}
 use Rattle.order.specs.declared.Order.{Order}
 use Rattle.order.specs.declared.Order.the-variants.{Less, Same, More}
 
 -- ---- what stands before what
 
--- no name stands before itself
-pub irreflexive : (x : Bytes) → before x x ≡ false
-unfolding before
-irreflexive [] = refl
-irreflexive (a ∷ x) = cons-equal a a x x refl ∙ irreflexive x
-
-pub transitive : (x y z : Bytes) → before x y ≡ true → before y z ≡ true → before x z ≡ true
-transitive = joins
-
--- names of which neither stands before the other are one
-pub antisymmetric : (x y : Bytes) → before x y ≡ false → before y x ≡ false → x ≡ y
-unfolding before
-antisymmetric [] [] h k = refl
-antisymmetric [] (b ∷ t) h k = absurd (false≢true (sym h))
-antisymmetric (a ∷ s) [] h k = absurd (false≢true (sym k))
-antisymmetric (a ∷ s) (b ∷ t) h k = go (sides a b) (antisymmetric s t)
-  where
-    go : Sides a b → (before s t ≡ false → before t s ≡ false → s ≡ t) → a ∷ s ≡ b ∷ t
-    go (less l) ih = absurd (false≢true (sym h ∙ cons-less a b s t l))
-    go (equal l) ih = let e : s ≡ t = ih (sym (cons-equal a b s t l) ∙ h) (sym (cons-equal b a t s (sym l)) ∙ k) in let z : a ∷ s ≡ b ∷ t = cc in z
-    go (more l) ih = absurd (false≢true (sym k ∙ cons-less b a t s l))
-
 -- not both stand before the other
 pub asymmetric : (x y : Bytes) → before x y ≡ true → before y x ≡ false
 asymmetric x y h = go (before y x) refl
   where
     go : (v : Bool) → before y x ≡ v → before y x ≡ false
-    go true k = absurd (false≢true (sym (irreflexive x) ∙ joins x y x h k))
+    go true k = absurd (false≢true (sym (not-itself x) ∙ joins x y x h k))
     go false k = k
 
 -- ---- the answer
@@ -59,7 +38,7 @@ order-of-behind x y h = rw (asymmetric y x h, h)
 
 pub order-of-same : (x : Bytes) → orderOf x x ≡ Same
 unfolding orderOf
-order-of-same x = rw (irreflexive x)
+order-of-same x = rw (not-itself x)
 
 -- names that begin alike are compared by the rest
 pub order-cons : (a b : ℕ) (s t : Bytes) → a ≡ b → orderOf (a ∷ s) (b ∷ t) ≡ orderOf s t
@@ -74,12 +53,15 @@ pub data Compared (x y : Bytes) : Type 0 where
 
 -- one of two names is before the other, or they are one
 pub compared : (x y : Bytes) → Compared x y
-compared x y = go (before x y) refl (before y x) refl
+compared x y = go (name-dec x y)
   where
-    go : (v : Bool) → before x y ≡ v → (w : Bool) → before y x ≡ w → Compared x y
-    go true h w k = below h
-    go false h true k = above k
-    go false h false k = alike (antisymmetric x y h k)
+    by : (x ≡ y → ⊥) → (v : Bool) → before y x ≡ v → Compared x y
+    by n true k = above k
+    by n false k = below (one-way x y n ∙ ap not k)
+
+    go : Dec (x ≡ y) → Compared x y
+    go (yes e) = alike e
+    go (no n) = by n (before y x) refl
 
 abbrev number : Order → ℕ
 number Less = 0

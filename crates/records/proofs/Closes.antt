@@ -10,7 +10,8 @@ use Rattle.moves.specs.Gap.{moved}
 use Rattle.moves.proofs.Cuts.{quarter, down}
 use Rattle.layout.specs.Rows.{Row, rows, nameTotal}
 use Rattle.records.specs.Blocks.{Closed}
-use Rattle.records.proofs.Entries.{total-append, total-up, rows-around, rows-tail, contents-kept}
+use Rattle.layout.proofs.Named.{total-append}
+use Rattle.records.proofs.Entries.{total-up, rows-around, rows-tail, contents-kept}
 
 -- a part closed up
 closed : (s : List ℕ) (a b e : ℕ) → a ≤ b → b ≤ e → e ≤ length s

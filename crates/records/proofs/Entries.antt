@@ -1,26 +1,19 @@
 -- Entries by their parts: the entries of one list of words behind another are those of the one, with its names, and those of the
--- other, with the names behind these. Assumes nothing.
+-- other, with the names behind these.
+-- Assumes nothing.
 use mathlib.Core.Path.{_≡_, refl, sym, ap, _∙_}
 use mathlib.Core.List.{List, [], _∷_, _++_}
-use Prim.Native.Nat.{ℕ, zero, suc, _+_, _-_, _≤_, _<_}
-use native.Mathlib.Nat.{add-assoc, zero-add}
+use Prim.Native.Nat.{ℕ, suc, _+_, _-_, _≤_, _<_}
 use native.Mathlib.Omega.{arith}
-use lib.ListN.{length, take, drop, getD, length-drop, take-append-drop}
+use lib.ListN.{length, take, drop, getD, length-drop}
 use lib.Seq.{length-take-le, take-at, take-append-le, drop-append-le, take-take, take-suc, drop-drop, length-slice}
 use Rattle.moves.proofs.Cuts.{up-to, none-between, drop-take, part-is}
 use Rattle.layout.specs.Fields.{depthOf, nlenOf, slotOf}
 use Rattle.layout.specs.Rows.{Row, rows, nameTotal}
 use Rattle.layout.specs.Slots.{total, split, contents}
+use Rattle.layout.proofs.Named.{total-append, total-split, rows-take, rows-drop}
 
 -- ---- the bytes of the names
-
-pub total-append : (a b : List ℕ) → nameTotal (a ++ b) ≡ nameTotal a + nameTotal b
-unfolding nameTotal
-total-append [] b = sym (zero-add (nameTotal b))
-total-append (w ∷ a) b = ap (λ (n : ℕ). nlenOf w + n) (total-append a b) ∙ sym (add-assoc (nlenOf w) (nameTotal a) (nameTotal b))
-
-pub total-split : (ws : List ℕ) (k : ℕ) → nameTotal (take k ws) + nameTotal (drop k ws) ≡ nameTotal ws
-total-split ws k = sym (total-append (take k ws) (drop k ws)) ∙ ap nameTotal (take-append-drop k ws)
 
 -- of the first m, by those of the first a
 pub total-up : (ws : List ℕ) (a m : ℕ) → a ≤ m → nameTotal (take m ws) ≡ nameTotal (take a ws) + nameTotal (drop a (take m ws))
@@ -43,24 +36,6 @@ total-step ws a j h l =
     ap nameTotal more ∙ total-append (drop a (take j ws)) (getD ws j 0 ∷ []) ∙ omega arith
 
 -- ---- the entries
-
-pub length-rows : (ws bs : List ℕ) → length (rows ws bs) ≡ length ws
-unfolding rows
-length-rows [] bs = refl
-length-rows (w ∷ ws) bs = ap suc (length-rows ws (drop (nlenOf w) bs))
-
-pub rows-take : (ws bs : List ℕ) (k : ℕ) → rows (take k ws) bs ≡ take k (rows ws bs)
-unfolding rows
-rows-take ws bs zero = refl
-rows-take [] bs (suc k) = refl
-rows-take (w ∷ ws) bs (suc k) = ap (λ (l : List Row). record { depth = depthOf w; name = take (nlenOf w) bs; slot = slotOf w } ∷ l) (rows-take ws (drop (nlenOf w) bs) k)
-
-pub rows-drop : (ws bs : List ℕ) (k : ℕ) → rows (drop k ws) (drop (nameTotal (take k ws)) bs) ≡ drop k (rows ws bs)
-unfolding rows nameTotal
-rows-drop ws bs zero = refl
-rows-drop [] bs (suc k) = refl
-rows-drop (w ∷ ws) bs (suc k) =
-    ap (rows (drop k ws)) (sym (drop-drop (nameTotal (take k ws)) (nlenOf w) bs)) ∙ rows-drop ws (drop (nlenOf w) bs) k
 
 -- they look at no byte behind their names
 pub rows-short : (ws bs : List ℕ) → rows ws (take (nameTotal ws) bs) ≡ rows ws bs

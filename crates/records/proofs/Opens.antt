@@ -11,7 +11,8 @@ use Rattle.moves.proofs.Cuts.{quarter, up, over}
 use Rattle.layout.specs.Fields.{nlenOf}
 use Rattle.layout.specs.Rows.{Row, rows, nameTotal}
 use Rattle.records.specs.Blocks.{rowOf, Opened}
-use Rattle.records.proofs.Entries.{total-append, total-split, total-up, rows-around, rows-tail, contents-kept}
+use Rattle.layout.proofs.Named.{total-append, total-split}
+use Rattle.records.proofs.Entries.{total-up, rows-around, rows-tail, contents-kept}
 
 -- the bytes
 bytes-in : (bs bs₁ bs₂ x : List ℕ) (o u : ℕ) → o ≤ u → u + length x ≤ length bs → bs₁ ≡ moved bs o (o + length x) (u - o) → bs₂ ≡ paste bs₁ o x (length x)

@@ -14,7 +14,8 @@ use Rattle.moves.proofs.Cuts.{thirds, quarter, part-is}
 use Rattle.layout.specs.Fields.{depthOf, nlenOf, slotOf}
 use Rattle.layout.specs.Rows.{Row, rows, nameTotal}
 use Rattle.records.specs.Blocks.{each, changed, lift, raise, raised, moveTo, Liftable, Moved}
-use Rattle.records.proofs.Entries.{total-append, total-split, total-up, total-take, length-rows, rows-take, rows-drop, rows-short, rows-cat, rows-around, drop-later}
+use Rattle.layout.proofs.Named.{total-append, total-split, length-rows, rows-take, rows-drop}
+use Rattle.records.proofs.Entries.{total-up, total-take, rows-short, rows-cat, rows-around, drop-later}
 use Rattle.records.proofs.Lifts.{length-each, depth-lift, nlen-lift, slot-lift}
 
 -- ---- entries raised

@@ -22,7 +22,7 @@ use Rattle.layout.proofs.Slotted.{SlotOf, free, directory, named, removed, targ
 use Rattle.layout.proofs.Used.{live-length}
 use Rattle.layout.proofs.Walks.{At, look-at, at-once, SlotsIn}
 use Rattle.marks.specs.Uses.{usesIn, Within}
-use Rattle.records.proofs.Entries.{length-rows}
+use Rattle.layout.proofs.Named.{length-rows}
 use Rattle.views.specs.Parts.{pathAfter}
 use Rattle.removes.specs.Removal.{EntryPath}
 

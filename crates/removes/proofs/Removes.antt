@@ -30,7 +30,8 @@ use Rattle.layout.proofs.Used.{live-length}
 use Rattle.layout.proofs.Walks.{SlotsIn}
 use Rattle.marks.specs.Uses.{usesIn, standsFrom, Within, Standing}
 use Rattle.records.specs.Blocks.{Closed}
-use Rattle.records.proofs.Entries.{length-rows, rows-front}
+use Rattle.layout.proofs.Named.{length-rows}
+use Rattle.records.proofs.Entries.{rows-front}
 use Rattle.views.specs.Parts.{pathAfter, Deeper, NotDeeper}
 use Rattle.views.proofs.Parted.{after-both, uses-both}
 use Rattle.views.proofs.Taking.{rows-cut, look-cut}

@@ -1,16 +1,13 @@
 -- The tests of set up, one after the other, come to the definitions.
 -- Assumes nothing.
-use mathlib.Core.Bool.{Bool, true, false, _&&_}
-use mathlib.Core.Path.{_≡_, refl}
+use mathlib.Core.Bool.{true, false}
+use mathlib.Core.Path.{_≡_}
 use Prim.Native.Nat.{ℕ, _+_, _*_, _≤_, _<_}
-use native.Mathlib.Omega.{arith}
-use lib.Dec.{leb}
-use borrow.Author.Tests.{le-leb, lt-leb, leb-true}
+use lib.Dec.{leb, leb→le}
+use borrow.Author.Tests.{le-leb, lt-leb}
+use Rattle.path.proofs.Laws.{and-left, and-right}
+use Rattle.model.proofs.Entries.{of-true}
 use Rattle.setup.specs.SetUp.{entriesFit, bytesFit}
-
-both : (a b : Bool) → a && b ≡ true → (a ≡ true) × (b ≡ true)
-both true b e = (refl, e)
-both false b e = absurd (let z : _≡_ {A = ℕ} 0 1 = cc in omega arith)
 
 -- what the entry storage is found to be
 pub record EntryRoom (w r h t p m : ℕ) : Type 0 where
@@ -24,27 +21,27 @@ pub record EntryRoom (w r h t p m : ℕ) : Type 0 where
 pub entry-room : (w r h t p m : ℕ) → entriesFit w r h t p m ≡ true → EntryRoom w r h t p m
 unfolding entriesFit
 entry-room w r h t p m e =
-    let a = both (leb 1 m) _ e in
-    let b = both (leb m 4096) _ (a .1) in
-    let c = both (leb 101 w) _ (b .1) in
-    let d = both (leb m r) _ (c .1) in
-    let f = both (leb (m + 32) h) _ (d .1) in
-    let g = both (leb (4 * (m + 32)) t) _ (f .1) in
+    let z = of-true e in
+    let a = and-right (leb 1 m) _ z in
+    let b = and-right (leb m 4096) _ a in
+    let c = and-right (leb 101 w) _ b in
+    let d = and-right (leb m r) _ c in
+    let f = and-right (leb (m + 32) h) _ d in
     record {
-      limit = (leb-true 1 m (a .0), leb-true m 4096 (b .0));
-      words = leb-true 101 w (c .0);
-      records = leb-true m r (d .0);
-      heads = leb-true (m + 32) h (f .0);
-      times = leb-true (4 * (m + 32)) t (g .0);
-      paths = leb-true 33792 p (g .1);
+      limit = (leb→le 1 m (and-left (leb 1 m) _ z), leb→le m 4096 (and-left (leb m 4096) _ a));
+      words = leb→le 101 w (and-left (leb 101 w) _ b);
+      records = leb→le m r (and-left (leb m r) _ c);
+      heads = leb→le (m + 32) h (and-left (leb (m + 32) h) _ d);
+      times = leb→le (4 * (m + 32)) t (and-left (leb (4 * (m + 32)) t) _ f);
+      paths = leb→le 33792 p (and-right (leb (4 * (m + 32)) t) _ f);
     }
 
 pub byte-room : (n b : ℕ) → bytesFit n b ≡ true → ((256 ≤ b) × (b ≤ 1048576)) × (b ≤ n)
 unfolding bytesFit
 byte-room n b e =
-    let a = both (leb 256 b) _ e in
-    let c = both (leb b 1048576) _ (a .1) in
-    ((leb-true 256 b (a .0), leb-true b 1048576 (c .0)), leb-true b n (c .1))
+    let z = of-true e in
+    let a = and-right (leb 256 b) _ z in
+    ((leb→le 256 b (and-left (leb 256 b) _ z), leb→le b 1048576 (and-left (leb b 1048576) _ a)), leb→le b n (and-right (leb b 1048576) _ a))
 
 module _ (n b : ℕ) where
   pub bytes-low : b < 256 → bytesFit n b ≡ false

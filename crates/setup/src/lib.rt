@@ -2,7 +2,7 @@
 ghost use mathlib.Core.Path.{_≡_};
 ghost use mathlib.Core.List.{_++_};
 ghost use Prim.Native.Nat.{_≤_};
-ghost use lib.ListN.{length, drop, replicate, set};
+ghost use lib.ListN.{length, drop, replicate};
 ghost use Rattle.layout.specs.Store.{lent};
 ghost use Rattle.setup.specs.SetUp.{entriesFit, bytesFit, freshWords, IsSetUp};
 

@@ -10,7 +10,7 @@ use native.Mathlib.Decide.{ℕ-discrete}
 use native.Mathlib.Omega.{arith}
 use lib.Dec.{T, eqb}
 use lib.ListN.{length, length-append, length-take, take, getD}
-use lib.Seq.{length-take-le, getD-take, getD-append-seam, take-length}
+use lib.Seq.{length-take-le, getD-take, getD-append-seam, take-length, take-take}
 use borrow.Author.Tests.{lt-ltb, le-ltb, eq-eqb}
 use Rattle.path.specs.Path.{Name}
 use Rattle.path.proofs.Laws.{and-left, and-right}
@@ -19,11 +19,10 @@ use Rattle.model.proofs.Entries.{clash, look-none, look-past, or}
 use Rattle.layout.specs.Rows.{Row, pathBy, pathOf, treeFrom}
 use Rattle.layout.specs.Lawful.{follows, walkOk}
 use Rattle.layout.proofs.Rising.{before-both, Rises, Follows, aside, below, follows-by}
-use Rattle.layout.proofs.Walks.{At, look-at, at-rises}
+use Rattle.layout.proofs.Walks.{At, look-at, at-rises, rest-ok}
 use Rattle.views.specs.Parts.{pathAfter, dirAfter, Deeper, NotDeeper}
 use Rattle.views.proofs.Parted.{walk-both, SameStart, MayStand}
-use Rattle.views.proofs.Inserting.{take-less}
-use Rattle.views.proofs.Removing.{kept-names, follows-low, walk-follows, walk-rest, next-keeps, below-keeps, Beyond, beyond-rises, beyond-behind, beyond-aside, begins}
+use Rattle.views.proofs.Removing.{kept-names, follows-low, walk-follows, next-keeps, below-keeps, Beyond, beyond-rises, beyond-behind, beyond-aside, begins}
 
 -- the name at a place of a path with one more behind
 getD-kept : (d j : ℕ) (p : Path) (x : Name) → j < d → d ≤ length p → getD (take d p ++ (x ∷ [])) j [] ≡ getD p j []
@@ -58,7 +57,7 @@ module _ (kind : ℕ → ℕ) (n : ℕ) (p : Path) (e : Bool) (row : Row) (x b :
   end = pathAfter at x
 
   rest : T (walkOk kind n at (eqb (kind (row .slot)) 1) (x ++ b))
-  rest = subst (λ (o : Path). T (walkOk kind n o (eqb (kind (row .slot)) 1) (x ++ b))) at-path (walk-rest kind n p e row (x ++ b) t)
+  rest = subst (λ (o : Path). T (walkOk kind n o (eqb (kind (row .slot)) 1) (x ++ b))) at-path (rest-ok kind n p e row (x ++ b) t)
 
   pub below-ok : T (walkOk kind n at (eqb (kind (row .slot)) 1) x)
   below-ok = and-left (walkOk kind n at (eqb (kind (row .slot)) 1) x) _ (subst T (walk-both kind n at (eqb (kind (row .slot)) 1) x b) rest)
@@ -95,7 +94,7 @@ module _ (kind : ℕ → ℕ) (n : ℕ) (p : Path) (e : Bool) (row : Row) (x b :
 
   start-at : (r : Row) → Next r → pathOf p r ≡ pathOf end r
   start-at r y =
-      let f : take (y .place) end ≡ take (y .place) p = sym (take-less (y .place) (suc d) end (omega (arith, y .within))) ∙ (ap (take (y .place)) end-keeps ∙ kept-names (y .place) d p (row .name) (y .within) low) in
+      let f : take (y .place) end ≡ take (y .place) p = sym (take-take (y .place) (suc d) end (omega (arith, y .within))) ∙ (ap (take (y .place)) end-keeps ∙ kept-names (y .place) d p (row .name) (y .within) low) in
       rw (y .deep) (ap (λ (q : Path). q ++ (r .name ∷ [])) (sym f))
 
   pub behind-start : SameStart p end b
@@ -139,7 +138,7 @@ module _ (kind : ℕ → ℕ) (n : ℕ) (p : Path) (e : Bool) (row : Row) (x b :
 
   beyond-at : (r : Row) → Next r → Beyond at (pathOf end r)
   beyond-at r y =
-      let f : take (y .place) end ≡ take (y .place) at = sym (take-less (y .place) (suc d) end (omega (arith, y .within))) ∙ ap (take (y .place)) end-keeps in
+      let f : take (y .place) end ≡ take (y .place) at = sym (take-take (y .place) (suc d) end (omega (arith, y .within))) ∙ ap (take (y .place)) end-keeps in
       rw (y .deep) (subst (λ (q : Path). Beyond at (q ++ (r .name ∷ []))) (sym f) (beyond-aside (y .place) at (r .name) (omega (arith, at-length, y .within)) (y .greater)))
 
   pub behind-beyond : (q : Path) (r : Row) → At end b q r → Beyond at q
@@ -150,7 +149,7 @@ module _ (kind : ℕ → ℕ) (n : ℕ) (p : Path) (e : Bool) (row : Row) (x b :
       go (s ∷ c) f (inl z) = subst (Beyond at) (z .0) (beyond-at s (first-next s c f))
       go (s ∷ c) f (inr z) =
           let w = subst (λ (l : List Row). T (walkOk kind n end (dirAfter kind (eqb (kind (row .slot)) 1) x) l)) f behind-ok in
-          beyond-rises at (pathOf end s) q (beyond-at s (first-next s c f)) (at-rises kind n (pathOf end s) (eqb (kind (s .slot)) 1) c (walk-rest kind n end _ s c w) q r z)
+          beyond-rises at (pathOf end s) q (beyond-at s (first-next s c f)) (at-rises kind n (pathOf end s) (eqb (kind (s .slot)) 1) c (rest-ok kind n end _ s c w) q r z)
 
   pub behind-none : (f : ℕ → Node) (q r : Path) → behind at q ≡ some r → look (treeFrom f end b) q ≡ none
   behind-none f q r h = go (look (treeFrom f end b) q) refl
@@ -168,7 +167,7 @@ module _ (kind : ℕ → ℕ) (n : ℕ) (p : Path) (e : Bool) (row : Row) (x b :
   below-none f q h o g (r ∷ c) z y w =
       let k : take (suc d) (pathOf o r) ≡ at = next-keeps kind n (suc d) o g r (r .depth) refl (y .0) (walk-follows kind n o g r c w) ∙ z in
       look-past (pathOf o r, f (r .slot)) (treeFrom f (pathOf o r) c) q (λ u. begins at q (ap (λ (i : ℕ). take i q) at-length ∙ (ap (take (suc d)) (sym u) ∙ k)) h)
-      ∙ below-none f q h (pathOf o r) (eqb (kind (r .slot)) 1) c k (y .1) (walk-rest kind n o g r c w)
+      ∙ below-none f q h (pathOf o r) (eqb (kind (r .slot)) 1) c k (y .1) (rest-ok kind n o g r c w)
 
   pub block-none : (f : ℕ → Node) (q : Path) → behind at q ≡ none → look ((at, f (row .slot)) ∷ treeFrom f at x) q ≡ none
   block-none f q h =
@@ -184,7 +183,7 @@ at-first p [] b q r h = absurd h
 at-first p (s ∷ a) b q r (inl e) = inl e
 at-first p (s ∷ a) b q r (inr h) = inr (at-first (pathOf p s) a b q r h)
 
-at-seam : (p : Path) (a : List Row) (r : Row) (b : List Row) → At p (a ++ (r ∷ b)) (pathOf (pathAfter p a) r) r
+pub at-seam : (p : Path) (a : List Row) (r : Row) (b : List Row) → At p (a ++ (r ∷ b)) (pathOf (pathAfter p a) r) r
 unfolding pathAfter
 at-seam p [] r b = inl (refl, refl)
 at-seam p (s ∷ a) r b = inr (at-seam (pathOf p s) a r b)
@@ -196,6 +195,6 @@ module _ (kind : ℕ → ℕ) (n : ℕ) where
   before-rises p d [] row b t q r h = absurd h
   before-rises p d (s ∷ a) row b t q r (inl e) =
       subst (λ (o : Path). Rises o (pathOf (pathAfter (pathOf p s) a) row)) (e .0)
-      (at-rises kind n (pathOf p s) (eqb (kind (s .slot)) 1) (a ++ (row ∷ b)) (walk-rest kind n p d s (a ++ (row ∷ b)) t) _ row (at-seam (pathOf p s) a row b))
+      (at-rises kind n (pathOf p s) (eqb (kind (s .slot)) 1) (a ++ (row ∷ b)) (rest-ok kind n p d s (a ++ (row ∷ b)) t) _ row (at-seam (pathOf p s) a row b))
   before-rises p d (s ∷ a) row b t q r (inr h) =
-      before-rises (pathOf p s) (eqb (kind (s .slot)) 1) a row b (walk-rest kind n p d s (a ++ (row ∷ b)) t) q r h
+      before-rises (pathOf p s) (eqb (kind (s .slot)) 1) a row b (rest-ok kind n p d s (a ++ (row ∷ b)) t) q r h

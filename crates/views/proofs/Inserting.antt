@@ -1,16 +1,16 @@
 -- A new entry between two parts of a walk: the entries behind it keep their paths, since none of them lies below it, and so the
 -- tree is the old one with one entry more.
 -- Assumes nothing.
-use mathlib.Core.Bool.{Bool, true, false, _&&_, cond}
+use mathlib.Core.Bool.{Bool, true, false, false≢true}
 use mathlib.Core.List.{List, [], _∷_, _++_}
 use mathlib.Core.Option.{Option, none, some}
 use mathlib.Core.Path.{_≡_, refl, sym, ap, _∙_, subst}
-use Prim.Native.Nat.{ℕ, zero, suc, _≤_, _<_}
+use Prim.Native.Nat.{ℕ, suc, _≤_, _<_}
 use native.Mathlib.Omega.{arith}
 use lib.Dec.{T, eqb, ltb, eqb→eq}
-use lib.ListN.{length, length-append, take, getD}
-use lib.Seq.{take-append-le}
-use borrow.Author.Tests.{lt-ltb, ltb-true}
+use lib.ListN.{length, length-append, length-take, take, getD}
+use lib.Seq.{take-append-le, take-take, take-length, getD-take}
+use borrow.Author.Tests.{lt-ltb}
 use Rattle.path.specs.Path.{Name}
 use Rattle.path.proofs.Laws.{and-left, and-right, and-both}
 use Rattle.model.specs.Tree.{Path, Node, Entries, before, look}
@@ -19,32 +19,34 @@ use Rattle.model.specs.Prog.{isNil}
 use Rattle.model.proofs.Entries.{clash, is-true, of-true, or, path-dec, look-here, look-past, both-look}
 use Rattle.layout.specs.Rows.{Row, pathBy, pathOf, treeFrom}
 use Rattle.layout.specs.Lawful.{follows, entryOk, walkOk, rootOk, rowsOk}
+use Rattle.layout.proofs.Rising.{Follows, aside, below, follows-by, by-follows}
 use Rattle.views.specs.Parts.{pathAfter, dirAfter, Behind, Gap}
 use Rattle.views.proofs.Parted.{tree-both, walk-both, SameStart, MayStand, tree-start, walk-start}
 
 -- ---- the path of the new entry
 
--- a shorter part of a part
-pub take-less : {A : Type 0} (j n : ℕ) (l : List A) → j ≤ n → take j (take n l) ≡ take j l
-take-less zero n l h = refl
-take-less (suc j) zero l h = absurd (omega (arith, h))
-take-less (suc j) (suc n) [] h = refl
-take-less (suc j) (suc n) (a ∷ l) h = ap (_∷_ a) (take-less j n l (omega (arith, h)))
+-- what may stand behind a path that is no directory stands behind every path that begins with it, and has one path behind both
+module _ (q e : Path) (keeps : take (length q) e ≡ q) where
+  long : length q ≤ length e
+  long = omega (arith, sym (length-take (length q) e) ∙ ap length keeps)
 
--- what may stand behind a path that is no directory stands in one of its directories
-pub data Aside (q : Path) (x : Name) : ℕ → Type 0 where
-  aside : (k : ℕ) → k < length q → T (before (getD q k []) x) → Aside q x (suc k)
+  stand-by : (d : Bool) (k : ℕ) (x : Name) → Follows q false x k → T (follows e d k x)
+  stand-by d n x (aside k h t) =
+      let u : getD q k [] ≡ getD e k [] = ap (λ (o : Path). getD o k []) (sym keeps) ∙ getD-take (length q) e k [] h in
+      by-follows e d (suc k) x (aside k (omega (arith, h, long)) (subst (λ (m : Name). T (before m x)) u t))
+  stand-by d n x (below z) = absurd (false≢true z)
 
-pub aside-of : (q : Path) (k : ℕ) (x : Name) → T (follows q false k x) → Aside q x k
-aside-of q zero x t = absurd t
-aside-of q (suc k) x t = go (ltb k (length q)) refl t
-  where
-    go : (b : Bool) → ltb k (length q) ≡ b → T (cond b (before (getD q k []) x) (eqb k (length q) && false)) → Aside q x (suc k)
-    go true e y = aside k (ltb-true k (length q) e) y
-    go false e y = absurd (and-right (eqb k (length q)) false y)
+  start-by : (k : ℕ) (x : Name) → Follows q false x k → pathBy k q x ≡ pathBy k e x
+  start-by n x (aside k h t) = ap (λ (o : Path). o ++ (x ∷ [])) (ap (take k) (sym keeps) ∙ take-take k (length q) e (omega arith))
+  start-by n x (below z) = absurd (false≢true z)
 
-of-aside : (q : Path) (d : Bool) (k : ℕ) (x : Name) → Aside q x k → T (follows q d k x)
-of-aside q d n x (aside k h y) = rw (lt-ltb k (length q) h) y
+  pub stand-below : (d : Bool) (c : List Row) → Behind q c → MayStand e d c
+  stand-below d [] h = tt
+  stand-below d (r ∷ c) h = stand-by d (r .depth) (r .name) (follows-by q false (r .depth) (r .name) h)
+
+  pub start-below : (c : List Row) → Behind q c → SameStart q e c
+  start-below [] h = tt
+  start-below (r ∷ c) h = start-by (r .depth) (r .name) (follows-by q false (r .depth) (r .name) h)
 
 -- the root has no name and is a directory
 pub root-is : (kind : ℕ → ℕ) (n : ℕ) (r : Row) → T (rootOk kind n r) → (r .depth ≡ 0) × (eqb (kind (r .slot)) 1 ≡ true)
@@ -53,7 +55,7 @@ root-is kind n r t =
     let v = and-right (isNil (r .name)) _ u in
     (eqb→eq (r .depth) 0 (and-left (eqb (r .depth) 0) _ t), is-true _ (and-right (ltb (r .slot) n) (eqb (kind (r .slot)) 1) v))
 
-none-left : (o u : Option Node) → or o u ≡ none → o ≡ none
+pub none-left : (o u : Option Node) → or o u ≡ none → o ≡ none
 none-left none u e = refl
 none-left (some y) u e = clash (some y) y e refl
 
@@ -64,18 +66,18 @@ module _ (kind : ℕ → ℕ) (a b : List Row) (q : Path) (x : Name) (g : Gap ki
   -- the names that both paths have
   pub shared : (k : ℕ) → k ≤ length q → take k (q ++ (x ∷ [])) ≡ take k (pathAfter [] a)
   shared k h =
-      take-append-le k q (x ∷ []) h ∙ (ap (take k) (sym (g .within)) ∙ take-less k (length q) (pathAfter [] a) h)
+      take-append-le k q (x ∷ []) h ∙ (ap (take k) (sym (g .within)) ∙ take-take k (length q) (pathAfter [] a) h)
 
-  start-by : (r : Row) (k : ℕ) → r .depth ≡ k → Aside (q ++ (x ∷ [])) (r .name) k → pathBy k (pathAfter [] a) (r .name) ≡ pathBy k (q ++ (x ∷ [])) (r .name)
-  start-by r n e (aside k h y) = ap (λ (p : Path). p ++ (r .name ∷ [])) (sym (shared k (omega (arith, h, new-length))))
+  start-new : (r : Row) (k : ℕ) → r .depth ≡ k → Follows (q ++ (x ∷ [])) false (r .name) k → pathBy k (pathAfter [] a) (r .name) ≡ pathBy k (q ++ (x ∷ [])) (r .name)
+  start-new r n e (aside k h y) = ap (λ (p : Path). p ++ (r .name ∷ [])) (sym (shared k (omega (arith, h, new-length))))
+  start-new r n e (below z) = absurd (false≢true z)
 
   pub same-start : (c : List Row) → Behind (q ++ (x ∷ [])) c → SameStart (pathAfter [] a) (q ++ (x ∷ [])) c
   same-start [] h = tt
-  same-start (r ∷ c) h = start-by r (r .depth) refl (aside-of (q ++ (x ∷ [])) (r .depth) (r .name) h)
+  same-start (r ∷ c) h = start-new r (r .depth) refl (follows-by (q ++ (x ∷ [])) false (r .depth) (r .name) h)
 
   may-stand : (d : Bool) (c : List Row) → Behind (q ++ (x ∷ [])) c → MayStand (q ++ (x ∷ [])) d c
-  may-stand d [] h = tt
-  may-stand d (r ∷ c) h = of-aside (q ++ (x ∷ [])) d (r .depth) (r .name) (aside-of (q ++ (x ∷ [])) (r .depth) (r .name) h)
+  may-stand d c h = stand-below (q ++ (x ∷ [])) (q ++ (x ∷ [])) (take-length (q ++ (x ∷ []))) d c h
 
   -- the new entry
   abbrev new : ℕ → Row

@@ -3,6 +3,7 @@ pub mod Carrying
 pub mod Deepening
 pub mod Frames
 pub mod Inserting
+pub mod Gaps
 pub mod Moving
 pub mod Numbers
 pub mod Parted

@@ -5,47 +5,24 @@ use mathlib.Core.Bool.{Bool, true, false}
 use mathlib.Core.List.{List, [], _∷_, _++_}
 use mathlib.Core.Option.{Option, none, some}
 use mathlib.Core.Path.{_≡_, refl, sym, ap, _∙_, subst}
-use Prim.Native.Nat.{ℕ, suc, _≤_, _<_}
-use native.Mathlib.Omega.{arith}
+use Prim.Native.Nat.{ℕ, suc, _<_}
 use lib.Dec.{T, eqb, ltb}
-use lib.ListN.{length, length-take, take, getD}
-use lib.Seq.{getD-take, take-length}
+use lib.ListN.{length, take}
+use lib.Seq.{take-length}
 use borrow.Author.Tests.{lt-ltb}
 use Rattle.path.specs.Path.{Name}
 use Rattle.path.proofs.Laws.{and-left, and-right, and-both}
 use Rattle.model.specs.Tree.{Path, Node, Entries, before, look, behind, graft}
 use Rattle.model.specs.Rules.{nameOk}
-use Rattle.model.proofs.Entries.{clash, of-true, or, both-look, graft-in, graft-out}
+use Rattle.model.proofs.Entries.{of-true, or, both-look, graft-in, graft-out}
 use Rattle.layout.specs.Rows.{Row, pathBy, treeFrom}
 use Rattle.layout.specs.Lawful.{follows, entryOk, walkOk, rootOk, rowsOk}
 use Rattle.views.specs.Parts.{pathAfter, dirAfter, Behind, Gap, Deeper}
-use Rattle.views.proofs.Parted.{tree-both, walk-both, SameStart, MayStand, tree-start, walk-start}
-use Rattle.views.proofs.Inserting.{Aside, aside, aside-of, take-less, root-is, same-start, new-path}
+use Rattle.views.proofs.Parted.{tree-both, walk-both, SameStart, tree-start, walk-start}
+use Rattle.views.proofs.Inserting.{stand-below, start-below, root-is, same-start, new-path, none-left}
 use Rattle.views.proofs.Removing.{below-keeps}
 
 -- ---- behind a path that begins with the entry's
-
--- what may stand behind the entry may stand behind what lies below it
-module _ (q e : Path) (keeps : take (length q) e ≡ q) where
-  long : length q ≤ length e
-  long = omega (arith, sym (length-take (length q) e) ∙ ap length keeps)
-
-  stand-by : (d : Bool) (k : ℕ) (x : Name) → Aside q x k → T (follows e d k x)
-  stand-by d n x (aside k h t) =
-      let u : getD q k [] ≡ getD e k [] = ap (λ (o : Path). getD o k []) (sym keeps) ∙ getD-take (length q) e k [] h in
-      rw (lt-ltb k (length e) (omega (arith, long))) (subst (λ (m : Name). T (before m x)) u t)
-
-  start-by : (k : ℕ) (x : Name) → Aside q x k → pathBy k q x ≡ pathBy k e x
-  start-by n x (aside k h t) =
-      ap (λ (o : Path). o ++ (x ∷ [])) (ap (take k) (sym keeps) ∙ take-less k (length q) e (omega arith))
-
-  pub stand-below : (d : Bool) (c : List Row) → Behind q c → MayStand e d c
-  stand-below d [] h = tt
-  stand-below d (r ∷ c) h = stand-by d (r .depth) (r .name) (aside-of q (r .depth) (r .name) h)
-
-  pub start-below : (c : List Row) → Behind q c → SameStart q e c
-  start-below [] h = tt
-  start-below (r ∷ c) h = start-by (r .depth) (r .name) (aside-of q (r .depth) (r .name) h)
 
 -- ---- the block between the parts
 
@@ -113,14 +90,10 @@ module _ (kind : ℕ → ℕ) (n : ℕ) (a b : List Row) (q : Path) (x : Name) (
 
 -- a block below a path that nothing else has may stand anywhere
 module _ (p : Path) (h : Entries) (s t : Entries) (clear : (q r : Path) → behind p q ≡ some r → look (s ++ t) q ≡ none) where
-  none-first : (o u : Option Node) → or o u ≡ none → o ≡ none
-  none-first none u e = refl
-  none-first (some y) u e = clash (some y) y e refl
-
   pub look-in : (q r : Path) → behind p q ≡ some r → look (s ++ (graft p h ++ t)) q ≡ look h r
   look-in q r e =
       let z = sym (both-look s t q) ∙ clear q r e in
-      let y = none-first (look s q) (look t q) z in
+      let y = none-left (look s q) (look t q) z in
       both-look s (graft p h ++ t) q
       ∙ (ap (λ (o : Option Node). or o (look (graft p h ++ t) q)) y
       ∙ (both-look (graft p h) t q ∙ (ap (or (look (graft p h) q)) (ap (λ (o : Option Node). or o (look t q)) (sym y) ∙ z) ∙ (or-none (look (graft p h) q) ∙ graft-in p q r h e))))

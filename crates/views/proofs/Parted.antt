@@ -43,6 +43,11 @@ unfolding pathAfter
 after-both p [] b = refl
 after-both p (r ∷ a) b = after-both (pathOf p r) a b
 
+pub dir-both : (kind : ℕ → ℕ) (d : Bool) (a b : List Row) → dirAfter kind d (a ++ b) ≡ dirAfter kind (dirAfter kind d a) b
+unfolding dirAfter
+dir-both kind d [] b = refl
+dir-both kind d (r ∷ a) b = dir-both kind (eqb (kind (r .slot)) 1) a b
+
 -- ---- another path before the second part
 
 -- the first entry has the same path behind both

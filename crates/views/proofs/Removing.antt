@@ -10,24 +10,24 @@ use Prim.Native.Nat.{ℕ, zero, suc, _≤_, _<_}
 use native.Mathlib.Omega.{arith}
 use lib.Dec.{T, eqb, ltb}
 use lib.ListN.{length, take, drop, getD, take-append-drop}
-use lib.Seq.{take-append-le, length-take-le}
+use lib.Seq.{take-append-le, length-take-le, take-take}
 use Rattle.path.specs.Path.{Name, same}
-use Rattle.path.proofs.Laws.{same-equal, and-left, and-right}
+use Rattle.path.proofs.Laws.{same-equal, and-right}
 use Rattle.model.specs.Tree.{Path, before, behind, behindBy}
 use Rattle.model.specs.Rules.{nameOk}
 use Rattle.layout.specs.Rows.{Row, pathBy, pathOf}
-use Rattle.layout.specs.Lawful.{follows, entryOk, walkOk}
+use Rattle.layout.specs.Lawful.{follows, walkOk}
 use Rattle.model.proofs.Entries.{clash, is-false, behind-self}
 use Rattle.layout.proofs.Rising.{before-self, before-both, Rises, Follows, aside, below, follows-by}
+use Rattle.layout.proofs.Walks.{first-ok, rest-ok}
 use Rattle.views.specs.Parts.{pathAfter, Deeper}
-use Rattle.views.proofs.Inserting.{take-less}
 
 -- ---- what lies below keeps the names
 
 -- the names of a path with one more behind some of them
 pub kept-names : (n k : ℕ) (p : Path) (x : Name) → n ≤ k → k ≤ length p → take n (take k p ++ (x ∷ [])) ≡ take n p
 kept-names n k p x h j =
-    take-append-le n (take k p) (x ∷ []) (rw (length-take-le k p j) h) ∙ take-less n k p h
+    take-append-le n (take k p) (x ∷ []) (rw (length-take-le k p j) h) ∙ take-take n k p h
 
 -- how deep an entry stands behind a path
 pub follows-low : (p : Path) (d : Bool) (k : ℕ) (x : Name) → T (follows p d (suc k) x) → k ≤ length p
@@ -39,12 +39,7 @@ follows-low p d k x t = go (suc k) refl (follows-by p d (suc k) x t)
 
 module _ (kind : ℕ → ℕ) (n : ℕ) where
   pub walk-follows : (p : Path) (d : Bool) (r : Row) (rs : List Row) → T (walkOk kind n p d (r ∷ rs)) → T (follows p d (r .depth) (r .name))
-  unfolding walkOk
-  walk-follows p d r rs t = and-right (nameOk (r .name)) _ (and-right (ltb (r .slot) n) _ (and-left (entryOk n p d r) _ t))
-
-  pub walk-rest : (p : Path) (d : Bool) (r : Row) (rs : List Row) → T (walkOk kind n p d (r ∷ rs)) → T (walkOk kind n (pathOf p r) (eqb (kind (r .slot)) 1) rs)
-  unfolding walkOk
-  walk-rest p d r rs t = and-right (entryOk n p d r) _ t
+  walk-follows p d r rs t = and-right (nameOk (r .name)) _ (and-right (ltb (r .slot) n) _ (first-ok kind n p d r rs t))
 
   -- one entry deeper than m names keeps the first m
   pub next-keeps : (m : ℕ) (p : Path) (d : Bool) (r : Row) (k : ℕ) → r .depth ≡ k → m < k → T (follows p d k (r .name)) → take m (pathBy k p (r .name)) ≡ take m p
@@ -55,7 +50,7 @@ module _ (kind : ℕ → ℕ) (n : ℕ) where
   unfolding pathAfter Deeper
   below-keeps m p d [] h t = refl
   below-keeps m p d (r ∷ rs) h t =
-      below-keeps m (pathOf p r) (eqb (kind (r .slot)) 1) rs (h .1) (walk-rest p d r rs t)
+      below-keeps m (pathOf p r) (eqb (kind (r .slot)) 1) rs (h .1) (rest-ok kind n p d r rs t)
       ∙ next-keeps m p d r (r .depth) refl (h .0) (walk-follows p d r rs t)
 
 -- ---- paths beyond

@@ -10,10 +10,10 @@ use Rattle.moves.proofs.copy_words.Statement.{statement}
 use Rattle.moves.proofs.copy_words.Tie as tie
 
 abbrev Inv-loop : tie.InvT-loop
-Inv-loop dst₀ at src j₀ dst j = (j ≤ length src) × (length dst ≡ length dst₀) × (dst ≡ paste dst₀ at src j)
+Inv-loop dst₀ at src i₀ dst i = (i ≤ length src) × (length dst ≡ length dst₀) × (dst ≡ paste dst₀ at src i)
 
 abbrev μ-loop : tie.MeasureT-loop
-μ-loop dst₀ at src j₀ dst j = length src - j
+μ-loop dst₀ at src i₀ dst i = length src - i
 
 loop-holds : tie.Need-loop-holds Inv-loop μ-loop
 loop-holds c = (zero-le, refl, paste-zero (c .args .dst .now) (c .args .at) (c .args .src .now))
@@ -33,8 +33,8 @@ mul-dst-2 c = omega arith
 slice-write-dst : tie.Need-slice-write-dst Inv-loop μ-loop
 slice-write-dst c = omega arith
 
-add-j : tie.Need-add-j Inv-loop μ-loop
-add-j c = omega arith
+add-i : tie.Need-add-i Inv-loop μ-loop
+add-i c = omega arith
 
 loop-less : tie.Need-loop-less Inv-loop μ-loop
 loop-less c = omega arith
@@ -43,12 +43,12 @@ loop-again : tie.Need-loop-again Inv-loop μ-loop
 loop-again c =
     let l = c .before .before .loop in
     let a = c .before .before .before .args in
-    let x : ℕ = getD (a .src .now) (l .j) 0 in (
+    let x : ℕ = getD (a .src .now) (l .i) 0 in (
       omega arith,
       simp length-set (l .inv .1),
-      ap (λ (r : List ℕ). set r (a .at + l .j) x) (l .inv .2)
-          ∙ paste-suc (a .dst .now) (a .at) (a .src .now) (l .j) 0 (omega arith) (omega arith)
-          ∙ ap (paste (a .dst .now) (a .at) (a .src .now)) (sym (add-one (l .j))),
+      ap (λ (r : List ℕ). set r (a .at + l .i) x) (l .inv .2)
+          ∙ paste-suc (a .dst .now) (a .at) (a .src .now) (l .i) 0 (omega arith) (omega arith)
+          ∙ ap (paste (a .dst .now) (a .at) (a .src .now)) (sym (add-one (l .i))),
     )
 
 same-length : tie.Need-same-length Inv-loop μ-loop
@@ -58,7 +58,7 @@ returns : tie.Need-returns Inv-loop μ-loop
 returns c =
     let l = c .before .loop in
     let a = c .before .before .args in
-    let e : l .j ≡ length (a .src .now) = omega arith in
+    let e : l .i ≡ length (a .src .now) = omega arith in
     l .inv .2 ∙ ap (paste (a .dst .now) (a .at) (a .src .now)) e
 
 pub copy-words-spec : {M : Type 1} → statement M
@@ -73,7 +73,7 @@ copy-words-spec =
     add-dst
     mul-dst-2
     slice-write-dst
-    add-j
+    add-i
     loop-less
     loop-again
     same-length

@@ -1,4 +1,4 @@
--- `shift` meets its contract: up or down, the move is the same.
+-- `shift` meets its contract: up or down, the move is the same. Assumes nothing.
 use mathlib.Core.Path.{_≡_, _∙_, ap₂}
 use Prim.Native.Nat.{ℕ, _+_, _-_}
 use native.Mathlib.Omega.{arith}
