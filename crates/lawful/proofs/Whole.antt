@@ -1,20 +1,20 @@
 -- The parts of a store and the whole: what the parts ask of slices is what a store asks, cut to the length that its limits ask.
 -- Assumes nothing.
-use mathlib.Core.Bool.{Bool, true, false, _||_, cond}
-use mathlib.Core.List.{List, [], _∷_}
+use mathlib.Core.Bool.{Bool, true, false, _||_}
+use mathlib.Core.List.{List}
 use mathlib.Core.Path.{_≡_, refl, sym, ap, _∙_, subst}
 use Prim.Native.Nat.{ℕ, zero, suc, _+_, _*_, _≤_, _<_}
 use native.Mathlib.Omega.{arith}
 use lib.Dec.{T, eqb, leb, ltb}
-use lib.ListN.{length, take, drop, getD}
+use lib.ListN.{length, take, getD}
 use lib.Seq.{getD-take, length-take-le, take-take}
 use borrow.Author.Tests.{ltb-true, ltb-false, leb-true, leb-false}
 use Rattle.text.specs.Utf8.{Bytes}
-use Rattle.layout.specs.Fields.{slotOf, nlenOf}
 use Rattle.layout.specs.Rows.{rows, nameTotal}
 use Rattle.layout.specs.Slots.{total}
 use Rattle.layout.specs.Store.{Store, most, room, count, live, rowsOf, slotsFor, bytesAt, cut}
 use Rattle.layout.specs.Lawful.{rowsOk, uses, heldFrom, slotBy, Exact, Lawful, Long, Passes}
+use Rattle.marks.proofs.Rowed.{uses-rows}
 use Rattle.marks.specs.Settles.{Settles}
 use Rattle.marks.specs.Uses.{usesIn, standsFrom}
 use Rattle.entries.specs.Fits.{kindIn}
@@ -38,11 +38,6 @@ module _ (words recs heads : List ℕ) (paths bs : Bytes) where
   parts-slots s e k false h = λ p. h (p .slots)
 
 -- ---- the users of a slot
-
-uses-rows : (k : ℕ) (ws : List ℕ) (bs : Bytes) → uses k (rows ws bs) ≡ usesIn k ws
-unfolding uses rows usesIn
-uses-rows k [] bs = refl
-uses-rows k (w ∷ ws) bs = ap (λ (n : ℕ). cond (eqb (slotOf w) k) 1 0 + n) (uses-rows k ws (drop (nlenOf w) bs))
 
 held-words : (st : Store) (n i k : ℕ) → heldFrom st n i k ≡ standsFrom (st .words) n i k
 unfolding heldFrom standsFrom

@@ -86,7 +86,7 @@ unfolding sumFrom
 sum-shift g zero k = refl
 sum-shift g (suc n) k = ap (λ (m : ℕ). g (suc k) + m) (sum-shift g n (suc k))
 
-total-sum : (hs : List ℕ) → total hs ≡ sumFrom (λ k. lenOf (getD hs k 0)) (length hs) 0
+pub total-sum : (hs : List ℕ) → total hs ≡ sumFrom (λ k. lenOf (getD hs k 0)) (length hs) 0
 unfolding total sumFrom
 total-sum [] = refl
 total-sum (h ∷ hs) = ap (λ (m : ℕ). lenOf h + m) (total-sum hs ∙ sym (sum-shift (λ k. lenOf (getD (h ∷ hs) k 0)) (length hs) 0))

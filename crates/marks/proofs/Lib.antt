@@ -1,2 +1,3 @@
-pub mod Counting
 pub mod ByKind
+pub mod Counting
+pub mod Rowed

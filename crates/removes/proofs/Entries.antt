@@ -1,12 +1,10 @@
 -- The entries of a store by its records, and the slots that they have: each slot has at most one.
 -- Assumes nothing.
-use mathlib.Core.Bool.{cond}
 use mathlib.Core.List.{List, [], _∷_}
 use mathlib.Core.Logic.{inl, inr}
 use mathlib.Core.Path.{_≡_, refl, ap, _∙_}
-use Prim.Native.Nat.{ℕ, zero, suc, _+_, _≤_, _<_}
+use Prim.Native.Nat.{ℕ, zero, suc, _+_, _<_}
 use native.Mathlib.Omega.{arith}
-use lib.Dec.{eqb}
 use lib.ListN.{length, take, drop, getD}
 use lib.Seq.{getD-take}
 use Rattle.text.specs.Utf8.{Bytes}
@@ -15,13 +13,12 @@ use Rattle.model.proofs.Over.{file-inj}
 use Rattle.layout.specs.Fields.{depthOf, nlenOf, slotOf}
 use Rattle.layout.specs.Rows.{Row, rows, pathOf}
 use Rattle.layout.specs.Store.{Store, count, live, rowsOf, kindAt}
-use Rattle.layout.specs.Lawful.{uses, Lawful}
+use Rattle.layout.specs.Lawful.{Lawful}
 use Rattle.layout.specs.Alike.{HasSlot}
 use Rattle.layout.proofs.Roots.{all-slots}
-use Rattle.layout.proofs.Slotted.{SlotOf, free, directory, named, removed, target, slot-of}
 use Rattle.layout.proofs.Used.{live-length}
-use Rattle.layout.proofs.Walks.{At, look-at, at-once, SlotsIn}
-use Rattle.marks.specs.Uses.{usesIn, Within}
+use Rattle.layout.proofs.Walks.{At, look-at, at-once}
+use Rattle.marks.proofs.Rowed.{words-within, used-once}
 use Rattle.layout.proofs.Named.{length-rows}
 use Rattle.views.specs.Parts.{pathAfter}
 use Rattle.removes.specs.Removal.{EntryPath}
@@ -39,30 +36,6 @@ unfolding rows
 row-slot [] bs i r h = absurd (omega arith)
 row-slot (w ∷ ws) bs zero r h = refl
 row-slot (w ∷ ws) bs (suc i) r h = row-slot ws (drop (nlenOf w) bs) i r (omega arith)
-
--- as many records name a slot as entries have it
-pub uses-words : (k : ℕ) (ws : List ℕ) (bs : Bytes) → usesIn k ws ≡ uses k (rows ws bs)
-unfolding usesIn uses rows
-uses-words k [] bs = refl
-uses-words k (w ∷ ws) bs = ap (λ (n : ℕ). cond (eqb (slotOf w) k) 1 0 + n) (uses-words k ws (drop (nlenOf w) bs))
-
-pub words-within : (n : ℕ) (ws : List ℕ) (bs : Bytes) → SlotsIn n (rows ws bs) → Within n ws
-unfolding rows
-words-within n [] bs h i l = absurd (omega arith)
-words-within n (w ∷ ws) bs h zero l = h .0
-words-within n (w ∷ ws) bs h (suc i) l = words-within n ws (drop (nlenOf w) bs) (h .1) i (omega arith)
-
--- ---- a slot has at most one entry
-
-once-used : (st : Store) (k : ℕ) → SlotOf st k → uses k (rowsOf st) ≤ 1
-once-used st k (free e h u w) = omega arith
-once-used st k (directory e h u w) = omega arith
-once-used st k (named e u) = omega arith
-once-used st k (removed e u w) = omega arith
-once-used st k (target e h u w) = omega arith
-
-pub used-once : (st : Store) → Lawful st → (k : ℕ) → k < length (st .heads) → uses k (rowsOf st) ≤ 1
-used-once st l k h = once-used st k (slot-of st k (l .slots k h))
 
 -- ---- the path of an entry
 

@@ -40,7 +40,8 @@ use Rattle.edits.proofs.Shrinking.{shrunk-spells}
 use Rattle.removes.specs.Clearing.{keepsOne, keepsUsed, Cleared}
 use Rattle.removes.specs.Removal.{Block, Removed}
 use Rattle.removes.proofs.Clears.{stands-held, keep-here, keep-other}
-use Rattle.removes.proofs.Entries.{uses-words, words-within, used-once, entry-depth, entry-slot, slot-low}
+use Rattle.marks.proofs.Rowed.{uses-rows, words-within, used-once}
+use Rattle.removes.proofs.Entries.{entry-depth, entry-slot, slot-low}
 
 -- ---- the entries in their parts: the root, those before the block, its first, those below it, those behind
 
@@ -262,7 +263,7 @@ module _ (ws rs hs : List ℕ) (ts : List ℤ) (ps bs : Bytes) (i e : ℕ) (l : 
       -- ---- more
 
       used-left : (k : ℕ) → usesIn k recs ≡ uses k left
-      used-left k = uses-words k recs bs₁ ∙ ap (uses k) left-rows
+      used-left k = sym (uses-rows k recs bs₁) ∙ ap (uses k) left-rows
 
       stays-used : (k : ℕ) → stays st left k ≡ keepsUsed ws′ recs k
       unfolding keepsUsed

@@ -1,0 +1,128 @@
+-- Bytes used and links, by the words of the records: the bytes of the slots that a record has and of those that none has are those of
+-- all slots, and an entry is a link where its slot's kind says so.
+-- Assumes nothing.
+use mathlib.Core.Bool.{Bool, cond}
+use mathlib.Core.List.{List, [], _∷_}
+use mathlib.Core.Path.{_≡_, refl, sym, ap, _∙_, subst}
+use Prim.Native.Nat.{ℕ, zero, suc, _+_, _*_, _≤_, _<_}
+use native.Mathlib.Nat.{zero-mul, one-mul}
+use native.Mathlib.Omega.{arith}
+use native.Mathlib.Decide.{ℕ-discrete}
+use lib.Dec.{eqb}
+use borrow.Author.Tests.{eq-eqb, ne-eqb}
+use lib.ListN.{length, take, drop, getD}
+use Rattle.text.specs.Utf8.{Bytes}
+use Rattle.model.specs.Tree.{Path, Entries, links}
+use Rattle.model.specs.Calls.{bytesUsed}
+use Rattle.layout.specs.Fields.{depthOf, lenOf, nlenOf, slotOf}
+use Rattle.layout.specs.Rows.{Row, rows, nameTotal, pathOf, treeFrom}
+use Rattle.layout.specs.Store.{Store, live, rowsOf, kindAt, nodeAt, state}
+use Rattle.layout.specs.Lawful.{uses, Lawful}
+use Rattle.layout.proofs.Roots.{all-slots}
+use Rattle.layout.proofs.Slotted.{SlotOf, free, directory, named, removed, target, slot-of, dir-at, file-at, link-at}
+use Rattle.layout.proofs.Sums.{sumFrom, sum-same, sum-both, sumRows, sum-rows}
+use Rattle.layout.proofs.Used.{bytes-used, total-sum}
+use Rattle.layout.proofs.Walks.{SlotsIn}
+use Rattle.find.specs.Totals.{headOf, heldTotal, linkTotal}
+use Rattle.marks.specs.Uses.{usesIn, Within}
+use Rattle.marks.proofs.Rowed.{uses-rows, words-within, used-once}
+use Rattle.used.specs.Unnamed.{alone, aloneFrom, unnamed}
+
+-- ---- sums
+
+alone-sum : (u : ℕ → ℕ) (hs : List ℕ) (n k : ℕ) → aloneFrom u hs n k ≡ sumFrom (alone u hs) n k
+unfolding aloneFrom sumFrom
+alone-sum u hs zero k = refl
+alone-sum u hs (suc n) k = ap (λ (m : ℕ). alone u hs k + m) (alone-sum u hs n (suc k))
+
+held-sum : (hs ws : List ℕ) (bs : Bytes) → heldTotal hs ws ≡ sumRows (λ k. lenOf (getD hs k 0)) (rows ws bs)
+unfolding heldTotal sumRows rows
+held-sum hs [] bs = refl
+held-sum hs (w ∷ ws) bs = ap (λ (m : ℕ). lenOf (headOf hs w) + m) (held-sum hs ws (drop (nlenOf w) bs))
+
+module _ (st : Store) (l : Lawful st) where
+  slots-in : SlotsIn (length (st .heads)) (rowsOf st)
+  slots-in = all-slots (kindAt st) (length (st .heads)) (rowsOf st) (l .entries)
+
+  pub within : Within (length (st .heads)) (live st)
+  within = words-within (length (st .heads)) (live st) (st .bytes) slots-in
+
+  once : (k : ℕ) → k < length (st .heads) → usesIn k (live st) ≤ 1
+  once k h = subst (λ (n : ℕ). n ≤ 1) (uses-rows k (live st) (st .bytes)) (used-once st l k h)
+
+  -- one slot: what a record has of it, or what none has
+  one-slot : (u g : ℕ) (hs : List ℕ) (k : ℕ) → u ≤ 1 → g ≡ lenOf (getD hs k 0) → u * g + cond (eqb u 0) (lenOf (getD hs k 0)) 0 ≡ g
+  one-slot zero g hs k h e = omega (arith, zero-mul g)
+  one-slot (suc zero) g hs k h e = omega (arith, one-mul g)
+  one-slot (suc (suc u)) g hs k h e = absurd (omega arith)
+
+  pub bytes-by : nameTotal (live st) + heldTotal (st .heads) (live st) + unnamed (live st) (st .heads) ≡ bytesUsed (state st)
+  bytes-by =
+      let n = length (st .heads) in
+      let g : ℕ → ℕ = λ k. lenOf (getD (st .heads) k 0) in
+      let rs = rowsOf st in
+      let u : ℕ → ℕ = λ k. usesIn k (live st) in
+      omega (
+        arith,
+        bytes-used st l,
+        held-sum (st .heads) (live st) (st .bytes),
+        sum-rows g n rs slots-in,
+        alone-sum u (st .heads) n 0,
+        sum-both (λ i. uses i rs * g i) (alone u (st .heads)) n 0,
+        total-sum (st .heads),
+        sum-same (λ i. uses i rs * g i + alone u (st .heads) i) g n 0
+            (λ i a b. ap (λ (m : ℕ). m * g i + alone u (st .heads) i) (uses-rows i (live st) (st .bytes)) ∙ one-slot (u i) (g i) (st .heads) i (once i (omega arith)) refl),
+      )
+
+  -- ---- links
+
+  -- an entry is a link where its slot is one
+  link-one : (k : ℕ) → 1 ≤ uses k (rowsOf st) → SlotOf st k → (p : Path) (t : Entries) → links ((p, nodeAt st k) ∷ t) ≡ cond (eqb (kindAt st k) 3) 1 0 + links t
+  unfolding links
+  link-one k h (free e x u w) p t = absurd (omega arith)
+  link-one k h (directory e x u w) p t = rw (dir-at st k e, e) (omega arith)
+  link-one k h (named e u) p t = rw (file-at st k e, e) (omega arith)
+  link-one k h (removed e u w) p t = absurd (omega arith)
+  link-one k h (target e x u w) p t = rw (link-at st k e, e) (omega arith)
+
+  no-links : links [] ≡ 0
+  unfolding links
+  no-links = refl
+
+  -- the record of a slot in use
+  abbrev Used : ℕ → Type 0
+  Used k = (1 ≤ uses k (rowsOf st)) × (k < length (st .heads))
+
+  links-from : (p : Path) (ws : List ℕ) (bs : Bytes) → ((k : ℕ) → 1 ≤ usesIn k ws → Used k) → links (treeFrom (nodeAt st) p (rows ws bs)) ≡ linkTotal (st .heads) ws
+  unfolding treeFrom rows linkTotal usesIn
+  links-from p [] bs h = no-links
+  links-from p (w ∷ ws) bs h =
+      let u = h (slotOf w) (rw (eq-eqb (slotOf w) (slotOf w) refl) (omega arith)) in
+      let r : Row = record { depth = depthOf w; name = take (nlenOf w) bs; slot = slotOf w } in
+      link-one (slotOf w) (u .0) (slot-of st (slotOf w) (l .slots (slotOf w) (u .1))) (pathOf p r) (treeFrom (nodeAt st) (pathOf p r) (rows ws (drop (nlenOf w) bs)))
+      ∙ ap (λ (m : ℕ). cond (eqb (kindAt st (slotOf w)) 3) 1 0 + m) (links-from (pathOf p (record { depth = depthOf w; name = take (nlenOf w) bs; slot = slotOf w })) ws (drop (nlenOf w) bs) (λ k v. h k (omega (arith, v))))
+
+  low-slot : (ws : List ℕ) (k : ℕ) → Within (length (st .heads)) ws → 1 ≤ usesIn k ws → k < length (st .heads)
+  unfolding usesIn
+  low-slot [] k h u = absurd (omega arith)
+  low-slot (w ∷ ws) k h u = go (ℕ-discrete (slotOf w) k) (low-slot ws k (λ i a. h (suc i) (omega arith)))
+    where
+      go : Dec (slotOf w ≡ k) → (1 ≤ usesIn k ws → k < length (st .heads)) → k < length (st .heads)
+      go (yes e) ih = subst (λ (i : ℕ). i < length (st .heads)) e (h 0 (omega arith))
+      go (no e) ih = ih (let z : _≡_ {A = ℕ} (cond (eqb (slotOf w) k) 1 0) 0 = ap (λ (b : Bool). cond {A = ℕ} b 1 0) (ne-eqb (slotOf w) k e) in omega arith)
+
+  pub links-by : linkTotal (st .heads) (live st) ≡ links (state st .tree)
+  links-by =
+      sym (links-from [] (live st) (st .bytes)
+      (λ k u. (subst (λ (n : ℕ). 1 ≤ n) (sym (uses-rows k (live st) (st .bytes))) u, low-slot (live st) k within u)))
+
+  pub once-all : (k : ℕ) → usesIn k (live st) ≤ 1
+  once-all k = go (usesIn k (live st)) refl
+    where
+      go : (n : ℕ) → usesIn k (live st) ≡ n → usesIn k (live st) ≤ 1
+      go zero e = omega arith
+      go (suc n) e = once k (low-slot (live st) k within (omega (arith, e)))
+
+  -- the whole fits a word
+  pub bytes-small : nameTotal (live st) + heldTotal (st .heads) (live st) + unnamed (live st) (st .heads) ≤ 1048576
+  bytes-small = omega (arith, bytes-by, bytes-used st l, l .space, l .byteLimit .1)
