@@ -1,13 +1,18 @@
-// Only for tests and timing: what `text` and `path` answer, for C and Rust programs, by numbers and bytes. No function
+// Only for tests and timing: what `text`, `path` and `lawful` answer, for C and Rust programs, by numbers and bytes. No function
 // asks anything of its caller.
 ghost use mathlib.Core.Path.{_≡_};
 ghost use mathlib.Core.Bool.{cond};
 ghost use mathlib.Core.List.{_++_};
 ghost use Prim.Native.Nat.{_+_, _≤_};
+ghost use lib.Dec.{eqb};
 ghost use lib.ListN.{length, take, drop};
 ghost use Rattle.text.specs.Utf8.{text};
 ghost use Rattle.path.specs.Path.{names, normal, absolute, body, lengthsOk};
+ghost use Rattle.layout.specs.Store.{lent};
+ghost use Rattle.layout.specs.Lawful.{Passes};
+ghost use Rattle.marks.specs.Settles.{Settles};
 ghost use Rattle.probe.specs.Numbers.{Answers, LastAt, NameAnswers, FollowAnswers, BehindAnswers, numberOf, whichOf, fromOf, toOf};
+use lawful::store_ok;
 use path::absolute::normalize_path;
 use path::absolute::raw_path;
 use path::absolute::to_absolute_path;
@@ -179,4 +184,22 @@ pub extern "C" fn probe_follow(
         return have;
     }
     follow_behind(out, have as usize, behind, name, target)
+}
+
+// 0 where the slices are a store, or refusal 1.
+#[no_mangle]
+pub extern "C" fn probe_store(
+    words: &[u64],
+    records: &[u64],
+    heads: &[u64],
+    times: &[i64],
+    paths: &[u8],
+    bytes: &[u8],
+) -> u32
+    ensures { λ r. ⌜ Settles (eqb r 0) (Passes (lent (now (words .entry)) (now (records .entry)) (now (heads .entry)) (now (times .entry)) (now (paths .entry)) (now (bytes .entry)))) × (r ≤ 1) ⌝ }
+{
+    if store_ok(words, records, heads, times, paths, bytes) {
+        return 0;
+    }
+    1
 }

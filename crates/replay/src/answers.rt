@@ -4,9 +4,9 @@ ghost use lib.ListN.{length};
 use crate::decode::decode;
 use crate::decode::filled;
 use crate::decode::put;
-use crate::fields::field;
-use crate::fields::front;
-use crate::fields::same;
+use fields::field;
+use fields::front;
+use fields::same;
 use libc::STDOUT_FILENO;
 
 fn say(s: &[u8]) {

@@ -2,8 +2,8 @@
 ghost use mathlib.Core.Path.{_≡_};
 ghost use Prim.Native.Nat.{_-_, _≤_};
 ghost use lib.ListN.{length};
-use crate::fields::at;
-use crate::fields::front;
+use fields::at;
+use fields::front;
 
 // The value of a hexadecimal digit; 16: it is none.
 fn digit(b: u8) -> u8

@@ -7,14 +7,13 @@
 // A line that begins with # is skipped; one that is longer than 4,096 bytes or not as above is answered by `?`.
 mod answers;
 mod decode;
-mod fields;
 
 use crate::answers::four_args;
 use crate::answers::one_arg;
 use crate::answers::two_args;
-use crate::fields::at;
-use crate::fields::find;
-use crate::fields::spaces;
+use fields::at;
+use fields::find;
+use fields::spaces;
 
 // One line, with its number.
 fn answer(number: u64, line: &[u8]) {

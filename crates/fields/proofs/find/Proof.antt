@@ -1,9 +1,9 @@
--- `fields::find` meets its contract. The measure is what is left of the length.
+-- `find` meets its contract. The measure is what is left of the length.
 use borrow.Author.Needs.{needs}
 use Prim.Native.Nat.{_-_, _≤_}
 use lib.ListN.{length}
-use Rattle.replay.proofs.fields.find.Statement.{statement}
-use Rattle.replay.proofs.fields.find.Tie as tie
+use Rattle.fields.proofs.find.Statement.{statement}
+use Rattle.fields.proofs.find.Tie as tie
 
 abbrev Inv-loop : tie.InvT-loop
 Inv-loop s from b i₀ i = (from ≤ i) × (i ≤ length s)

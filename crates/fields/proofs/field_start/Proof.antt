@@ -1,9 +1,9 @@
--- `fields::field_start` meets its contract. The measure is how many spaces are still to be passed.
+-- `field_start` meets its contract. The measure is how many spaces are still to be passed.
 use borrow.Author.Needs.{needs}
 use Prim.Native.Nat.{_-_, _≤_}
 use lib.ListN.{length}
-use Rattle.replay.proofs.fields.field_start.Statement.{statement}
-use Rattle.replay.proofs.fields.field_start.Tie as tie
+use Rattle.fields.proofs.field_start.Statement.{statement}
+use Rattle.fields.proofs.field_start.Tie as tie
 
 abbrev Inv-loop : tie.InvT-loop
 Inv-loop s k a₀ j₀ a j = (a ≤ length s) × (j ≤ k)

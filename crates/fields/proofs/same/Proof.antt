@@ -1,9 +1,9 @@
--- `fields::same` is safe and ends: the measure is what is left of the length.
+-- `same` is safe and ends: the measure is what is left of the length.
 use borrow.Author.Needs.{needs}
 use Prim.Native.Nat.{_-_, _≤_}
 use lib.ListN.{length}
-use Rattle.replay.proofs.fields.same.Statement.{statement}
-use Rattle.replay.proofs.fields.same.Tie as tie
+use Rattle.fields.proofs.same.Statement.{statement}
+use Rattle.fields.proofs.same.Tie as tie
 
 abbrev Inv-loop : tie.InvT-loop
 Inv-loop a b i₀ i = i ≤ length a

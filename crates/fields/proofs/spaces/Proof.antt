@@ -1,11 +1,11 @@
--- `fields::spaces` is safe and ends: there are at most as many spaces as bytes. The measure is what is left of the length.
+-- `spaces` is safe and ends: there are at most as many spaces as bytes. The measure is what is left of the length.
 use borrow.Author.Needs.{needs}
 use native.Mathlib.Omega.{arith}
 use Prim.Native.Nat.{_-_, _≤_}
 use lib.ListN.{length}
 use mathlib.Core.Logic.{⊎-elim}
-use Rattle.replay.proofs.fields.spaces.Statement.{statement}
-use Rattle.replay.proofs.fields.spaces.Tie as tie
+use Rattle.fields.proofs.spaces.Statement.{statement}
+use Rattle.fields.proofs.spaces.Tie as tie
 
 abbrev Inv-loop : tie.InvT-loop
 Inv-loop s n₀ i₀ n i = (i ≤ length s) × (n ≤ i)

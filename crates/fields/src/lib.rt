@@ -1,4 +1,4 @@
-// The fields of a line.
+// The fields of a line of text, for the programs that read cases. Only for tests.
 ghost use Prim.Native.Nat.{_≤_};
 ghost use lib.ListN.{length};
 
