@@ -7,7 +7,6 @@
 // 5) only N elements are handed over; `letters-in-paths I N` and `letters-in-bytes I N`, N letters `a` from index I on. A number is
 // decimal, or hexadecimal behind 0x. A line that begins with # is skipped; `?` is written for a place or HOLDS that is none.
 mod read;
-mod shown;
 mod store;
 mod tried;
 

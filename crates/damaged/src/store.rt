@@ -8,11 +8,11 @@ use crate::read::PATHS_A;
 use crate::read::RECORDS;
 use crate::read::TIMES;
 use crate::read::WORDS;
-use crate::read::number;
 use crate::read::place_of;
 use fields::field;
 use fields::front;
 use fields::spaces;
+use shown::read::number;
 
 // A word, where the slice is so long.
 pub fn put_word(s: &mut [u64], i: usize, v: u64) {

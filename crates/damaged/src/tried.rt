@@ -1,9 +1,4 @@
 // One case: a good store made anew, changed, and what the test of refusal 1 says of it.
-use crate::read::number;
-use crate::shown::say;
-use crate::shown::say_number;
-use crate::shown::say_tree;
-use crate::shown::word;
 use crate::store::change;
 use crate::store::put_text;
 use crate::store::put_word;
@@ -11,6 +6,11 @@ use crate::store::put_words;
 use fields::field;
 use fields::front;
 use fields::same;
+use shown::read::number;
+use shown::text::say;
+use shown::text::say_number;
+use shown::tree::say_tree;
+use shown::tree::word;
 
 // A root alone.
 fn root(words: &mut [u64], records: &mut [u64], heads: &mut [u64]) {

@@ -26,7 +26,7 @@ use Rattle.lawful.specs.Parts.{pieceOk}
 -- ---- names
 
 -- a piece without a slash is a name
-piece-name : (n : Name) → NoSlash n → T (pieceOk n) → T (nameOk n)
+pub piece-name : (n : Name) → NoSlash n → T (pieceOk n) → T (nameOk n)
 unfolding nameOk proper
 piece-name n w t =
     let f = and-left (formOk n) (leb (length n) 255 && text n) t in
@@ -80,7 +80,7 @@ read-all s e l z r =
     sym (ap (λ (x : List Name). (namesOk x && leb (length (body x)) 1024) && same (body x) s) n ∙ rw (is-true (namesOk ns) (r .2), f, g))
 
 -- a kept path has one piece more than names
-cell-pieces : (s : Bytes) → T (cellOk s) → (pieces s ≡ [] ∷ names s) × T (namesOk (names s))
+pub cell-pieces : (s : Bytes) → T (cellOk s) → (pieces s ≡ [] ∷ names s) × T (namesOk (names s))
 unfolding cellOk pathOk
 cell-pieces s h =
     let b : body (names s) ≡ s = same-equal (body (names s)) s (and-right (pathOk (names s)) (same (body (names s)) s) h) in

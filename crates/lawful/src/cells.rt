@@ -11,7 +11,7 @@ use path::pieces::piece_start;
 use text::text_ok;
 
 // Whether what stands between two slashes is a name.
-fn piece_ok(n: &[u8]) -> bool
+pub fn piece_ok(n: &[u8]) -> bool
     ensures { λ r. ⌜ r ≡ pieceOk (now (n .entry)) ⌝ }
 {
     if kind_of(n, true) != 2 {
@@ -24,7 +24,7 @@ fn piece_ok(n: &[u8]) -> bool
 }
 
 // Whether a text is a path as it is kept: nothing, or names with a slash before each. Read from its end.
-fn path_ok(s: &[u8]) -> bool
+pub fn path_ok(s: &[u8]) -> bool
     requires { ⌜ length (now s) ≤ 1024 ⌝ }
     ensures { λ r. ⌜ r ≡ cellOk (now (s .entry)) ⌝ }
 {

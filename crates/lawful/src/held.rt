@@ -40,7 +40,7 @@ pub fn bytes_total(heads: &[u64]) -> usize
 }
 
 // Whether the bytes are a link's target.
-fn target_ok(s: &[u8]) -> bool
+pub fn target_ok(s: &[u8]) -> bool
     ensures { λ r. ⌜ r ≡ targetOk (now (s .entry)) ⌝ }
 {
     if !text_ok(s) {

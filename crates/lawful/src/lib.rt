@@ -5,8 +5,8 @@ ghost use Rattle.layout.specs.Lawful.{Passes};
 ghost use Rattle.marks.specs.Settles.{Settles};
 ghost use Rattle.lawful.specs.Parts.{Parts};
 
-mod cells;
-mod held;
+pub mod cells;
+pub mod held;
 mod limits;
 
 // Whether slices that are as long as the limits ask obey the rules. `recs` has the records of the entries and no more.

@@ -1,34 +1,14 @@
 // What is written for each word: the refusal's number or 0, and then the answer.
-ghost use Prim.Native.Nat.{_≤_};
-ghost use lib.ListN.{length};
-use crate::decode::decode;
-use crate::decode::filled;
-use crate::decode::put;
 use fields::field;
 use fields::front;
 use fields::same;
 use libc::STDOUT_FILENO;
-
-fn say(s: &[u8]) {
-    io::write_all(STDOUT_FILENO, s);
-}
-
-fn say_number(n: u64) {
-    io::print_decimal(STDOUT_FILENO, n);
-}
-
-// A number that every byte of s enters.
-fn sum_of(s: &[u8]) -> u64
-    ensures { λ r. ⌜ r ≤ 4294967290 ⌝ }
-{
-    let mut h: u64 = 0;
-    let mut i = 0;
-    while i < s.len() {
-        h = (h * 257 + s[i] as u64 + 1) % 4294967291;
-        i += 1;
-    }
-    h
-}
+use shown::decode::decode;
+use shown::decode::filled;
+use shown::decode::put;
+use shown::text::say;
+use shown::text::say_number;
+use shown::text::sum_of;
 
 // A long text: its first and last 16 bytes, and a sum of all.
 fn say_long(s: &[u8]) {

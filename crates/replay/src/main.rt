@@ -6,7 +6,6 @@
 // hexadecimal digits in small letters, is a byte, and \*NNNN, four decimal digits, repeats the byte before it so that it stands NNNN times.
 // A line that begins with # is skipped; one that is longer than 4,096 bytes or not as above is answered by `?`.
 mod answers;
-mod decode;
 
 use crate::answers::four_args;
 use crate::answers::one_arg;

@@ -1,0 +1,155 @@
+// What stands in the slot of record i.
+ghost use mathlib.Core.Path.{_≡_};
+ghost use Prim.Native.Nat.{_≤_};
+ghost use lib.ListN.{length, getD};
+use crate::asked::ready;
+use crate::asked::room_for;
+use layout::kind_of;
+use layout::len_of;
+use layout::slot_of;
+
+// The slot of record i; the number of slots where no entry has the record.
+fn slot_at(words: &[u64], records: &[u64], slots: usize, i: usize) -> usize
+    requires { ⌜ (length (now words) ≡ 101) × (getD (now words) 2 0 ≤ length (now records)) ⌝ }
+{
+    if words[2] as usize <= i {
+        return slots;
+    }
+    slot_of(records[i])
+}
+
+pub fn try_mode(
+    words: &[u64],
+    records: &[u64],
+    heads: &mut [u64],
+    times: &[i64],
+    paths: &[u8],
+    bytes: &[u8],
+    i: usize,
+    m: u32,
+) -> bool {
+    if !ready(words, records, heads, times, paths, bytes) {
+        return false;
+    }
+    let slot = slot_at(words, records, heads.len(), i);
+    if heads.len() <= slot {
+        return false;
+    }
+    changes::set_mode(words, records, heads, times, paths, bytes, slot, m);
+    true
+}
+
+pub fn try_times(
+    words: &[u64],
+    records: &[u64],
+    heads: &[u64],
+    times: &mut [i64],
+    paths: &[u8],
+    bytes: &[u8],
+    i: usize,
+    a: i64,
+    t: i64,
+) -> bool {
+    if !ready(words, records, heads, times, paths, bytes) {
+        return false;
+    }
+    let slot = slot_at(words, records, heads.len(), i);
+    if heads.len() <= slot {
+        return false;
+    }
+    changes::set_times(words, records, heads, times, paths, bytes, slot, a, t);
+    true
+}
+
+pub fn try_some_times(
+    words: &[u64],
+    records: &[u64],
+    heads: &[u64],
+    times: &mut [i64],
+    paths: &[u8],
+    bytes: &[u8],
+    i: usize,
+    access: bool,
+    a: i64,
+    modify: bool,
+    t: i64,
+) -> bool {
+    if !ready(words, records, heads, times, paths, bytes) {
+        return false;
+    }
+    let slot = slot_at(words, records, heads.len(), i);
+    if heads.len() <= slot {
+        return false;
+    }
+    changes::set_some_times(
+        words,
+        records,
+        heads,
+        times,
+        paths,
+        bytes,
+        slot,
+        access,
+        a,
+        modify,
+        t,
+    );
+    true
+}
+
+pub fn try_contents(
+    words: &[u64],
+    records: &[u64],
+    heads: &mut [u64],
+    times: &mut [i64],
+    paths: &[u8],
+    bytes: &mut [u8],
+    i: usize,
+    text: &[u8],
+    t: i64,
+) -> bool {
+    if !ready(words, records, heads, times, paths, bytes) {
+        return false;
+    }
+    let slot = slot_at(words, records, heads.len(), i);
+    if heads.len() <= slot {
+        return false;
+    }
+    let h = heads[slot];
+    if kind_of(h) != 2 {
+        return false;
+    }
+    if !room_for(words, records, heads, bytes, len_of(h), text.len()) {
+        return false;
+    }
+    changes::set_contents(words, records, heads, times, paths, bytes, slot, text, t);
+    true
+}
+
+pub fn try_length(
+    words: &[u64],
+    records: &[u64],
+    heads: &mut [u64],
+    times: &[i64],
+    paths: &[u8],
+    bytes: &mut [u8],
+    i: usize,
+    n: usize,
+) -> bool {
+    if !ready(words, records, heads, times, paths, bytes) {
+        return false;
+    }
+    let slot = slot_at(words, records, heads.len(), i);
+    if heads.len() <= slot {
+        return false;
+    }
+    let h = heads[slot];
+    if kind_of(h) != 2 {
+        return false;
+    }
+    if !room_for(words, records, heads, bytes, len_of(h), n) {
+        return false;
+    }
+    changes::set_length(words, records, heads, times, paths, bytes, slot, n);
+    true
+}
