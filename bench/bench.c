@@ -219,7 +219,8 @@ static void normalizing(void) {
          dots = repeated("/..", 1000);
     Text mixed = repeated("/monday//tue/./wed/../thursday/a", 1000);
     Text k = text_of("/y26//moon/./jan.txt/"), moon = text_of("/y26/moon"), moon_slash = text_of("/y26/moon/"),
-         path = text_of("/y26/moon/jan/notes/day1.txt"), root = text_of("/");
+         path = text_of("/y26/moon/jan/notes/day1.txt"), root = text_of("/"), up_path = text_of("/y26/moon/../a/b"),
+         up_short = text_of("/a/../b"), up_relative = text_of("moon/../jan.txt");
     line("normalize: names of 2 bytes", our_normalize, their_normalize, (Input){&two, 0, 0}, 3);
     line("normalize: names of 8 bytes", our_normalize, their_normalize, (Input){&eight, 0, 0}, 3);
     line("normalize: names of 249 bytes", our_normalize, their_normalize, (Input){&long_names, 0, 0}, 3);
@@ -237,6 +238,9 @@ static void normalizing(void) {
     line("normalize: /y26//moon/./jan.txt/", our_normalize, their_normalize, (Input){&k, 0, 0}, 3);
     line("normalize: /y26/moon", our_normalize, their_normalize, (Input){&moon, 0, 0}, 3);
     line("normalize: /y26/moon/", our_normalize, their_normalize, (Input){&moon_slash, 0, 0}, 3);
+    line("normalize: /y26/moon/../a/b", our_normalize, their_normalize, (Input){&up_path, 0, 0}, 3);
+    line("normalize: moon/../jan.txt", our_normalize, their_normalize, (Input){&up_relative, 0, 0}, 3);
+    line("normalize: /a/../b", our_normalize, their_normalize, (Input){&up_short, 0, 0}, 3);
     line("normalize: /", our_normalize, their_normalize, (Input){&root, 0, 0}, 0);
 }
 
