@@ -1,7 +1,10 @@
 // What stands in the slot of record i.
 ghost use mathlib.Core.Path.{_≡_};
-ghost use Prim.Native.Nat.{_≤_};
+ghost use Prim.Native.Nat.{_≤_, _<_};
 ghost use lib.ListN.{length, getD};
+ghost use Rattle.layout.specs.Fields.{slotOf};
+ghost use Rattle.layout.specs.Store.{lent};
+ghost use Rattle.layout.specs.Lawful.{Lawful};
 use crate::asked::ready;
 use crate::asked::room_for;
 use layout::kind_of;
@@ -11,6 +14,7 @@ use layout::slot_of;
 // The slot of record i; the number of slots where no entry has the record.
 fn slot_at(words: &[u64], records: &[u64], slots: usize, i: usize) -> usize
     requires { ⌜ (length (now words) ≡ 101) × (getD (now words) 2 0 ≤ length (now records)) ⌝ }
+    ensures { λ r. ⌜ (r < slots → (i < getD (now (words .entry)) 2 0) × (r ≡ slotOf (getD (now (records .entry)) i 0))) ⌝ }
 {
     if words[2] as usize <= i {
         return slots;
@@ -97,6 +101,36 @@ pub fn try_some_times(
     true
 }
 
+// The contents of the file at record i, in a store that obeys the rules.
+pub fn contents_in(
+    words: &[u64],
+    records: &[u64],
+    heads: &mut [u64],
+    times: &mut [i64],
+    paths: &[u8],
+    bytes: &mut [u8],
+    i: usize,
+    text: &[u8],
+    t: i64,
+) -> bool
+    requires { ⌜ Lawful (lent (now words) (now records) (now heads) (now times) (now paths) (now bytes)) ⌝ }
+    ensures { λ r. ⌜ Lawful (lent (now (words .entry)) (now (records .entry)) (now (heads .exit)) (now (times .exit)) (now (paths .entry)) (now (bytes .exit))) ⌝ }
+{
+    let slot = slot_at(words, records, heads.len(), i);
+    if heads.len() <= slot {
+        return false;
+    }
+    let h = heads[slot];
+    if kind_of(h) != 2 {
+        return false;
+    }
+    if !room_for(words, records, heads, bytes, len_of(h), text.len()) {
+        return false;
+    }
+    changes::set_contents(words, records, heads, times, paths, bytes, slot, text, t);
+    true
+}
+
 pub fn try_contents(
     words: &[u64],
     records: &[u64],
@@ -111,19 +145,7 @@ pub fn try_contents(
     if !ready(words, records, heads, times, paths, bytes) {
         return false;
     }
-    let slot = slot_at(words, records, heads.len(), i);
-    if heads.len() <= slot {
-        return false;
-    }
-    let h = heads[slot];
-    if kind_of(h) != 2 {
-        return false;
-    }
-    if !room_for(words, records, heads, bytes, len_of(h), text.len()) {
-        return false;
-    }
-    changes::set_contents(words, records, heads, times, paths, bytes, slot, text, t);
-    true
+    contents_in(words, records, heads, times, paths, bytes, i, text, t)
 }
 
 pub fn try_length(

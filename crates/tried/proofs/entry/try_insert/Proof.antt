@@ -1,7 +1,6 @@
--- `try_insert` is safe: the store is lawful, the place is vacant, and the limits leave room.
+-- `try_insert` is safe: the store is lawful.
 -- Assumes nothing.
 use borrow.Author.Tests.{not-false}
-use Rattle.tried.proofs.Spots.{name-short}
 use borrow.Author.Needs.{needs}
 use Rattle.tried.proofs.entry.try_insert.Statement.{statement}
 use Rattle.tried.proofs.entry.try_insert.Tie as tie
@@ -27,8 +26,8 @@ same-length-5 c = search needs
 returns : tie.Need-returns
 returns c = search needs
 
-spot-for-requires : tie.Need-spot-for-requires
-spot-for-requires c κs = c .before .before .before .before .before .before .ready .ensures (not-false (c .before .before .before .before .before .before .ready .result) (c .before .before .before .before .before .if1 .left))
+insert-in-requires : tie.Need-insert-in-requires
+insert-in-requires c κs = c .before .before .before .before .before .before .ready .ensures (not-false (c .before .before .before .before .before .before .ready .result) (c .before .before .before .before .before .if1 .left))
 
 same-length-6 : tie.Need-same-length-6
 same-length-6 c = search needs
@@ -48,48 +47,6 @@ same-length-10 c = search needs
 returns-2 : tie.Need-returns-2
 returns-2 c = search needs
 
-insertable-requires : tie.Need-insertable-requires
-insertable-requires c κs = let v = c .before .before .before .before .before .before .spot-for .ensures (c .before .before .before .before .before .if2 .left) in (c .before .before .before .before .before .before .before .before .before .before .before .before .before .ready .ensures (not-false (c .before .before .before .before .before .before .before .before .before .before .before .before .before .ready .result) (c .before .before .before .before .before .before .before .before .before .before .before .before .if1 .left)), name-short (c .before .before .before .before .before .before .before .before .before .before .before .before .before .before .before .before .before .before .before .before .before .before .before .before .before .before .args .name .now) (v .1 .name))
-
-same-length-11 : tie.Need-same-length-11
-same-length-11 c = search needs
-
-same-length-12 : tie.Need-same-length-12
-same-length-12 c = search needs
-
-same-length-13 : tie.Need-same-length-13
-same-length-13 c = search needs
-
-same-length-14 : tie.Need-same-length-14
-same-length-14 c = search needs
-
-same-length-15 : tie.Need-same-length-15
-same-length-15 c = search needs
-
-returns-3 : tie.Need-returns-3
-returns-3 c = search needs
-
-insert-entry-requires : tie.Need-insert-entry-requires
-insert-entry-requires c κs = let v = c .before .before .before .before .before .before .before .before .before .before .before .before .before .spot-for .ensures (c .before .before .before .before .before .before .before .before .before .before .before .before .if2 .left) in (c .before .before .before .before .before .before .before .before .before .before .before .before .before .before .before .before .before .before .before .before .ready .ensures (not-false (c .before .before .before .before .before .before .before .before .before .before .before .before .before .before .before .before .before .before .before .before .ready .result) (c .before .before .before .before .before .before .before .before .before .before .before .before .before .before .before .before .before .before .before .if1 .left)), v, c .before .before .before .before .before .before .insertable .ensures (not-false (c .before .before .before .before .before .before .insertable .result) (c .before .before .before .before .before .if3 .left)))
-
-same-length-16 : tie.Need-same-length-16
-same-length-16 c = search needs
-
-same-length-17 : tie.Need-same-length-17
-same-length-17 c = search needs
-
-same-length-18 : tie.Need-same-length-18
-same-length-18 c = search needs
-
-same-length-19 : tie.Need-same-length-19
-same-length-19 c = search needs
-
-same-length-20 : tie.Need-same-length-20
-same-length-20 c = search needs
-
-returns-4 : tie.Need-returns-4
-returns-4 c = search needs
-
 pub try-insert-spec : {M : Type 1} → statement M
 try-insert-spec =
     tie.close
@@ -101,24 +58,10 @@ try-insert-spec =
     same-length-4
     same-length-5
     returns
-    spot-for-requires
+    insert-in-requires
     same-length-6
     same-length-7
     same-length-8
     same-length-9
     same-length-10
-    returns-2
-    insertable-requires
-    same-length-11
-    same-length-12
-    same-length-13
-    same-length-14
-    same-length-15
-    returns-3
-    insert-entry-requires
-    same-length-16
-    same-length-17
-    same-length-18
-    same-length-19
-    same-length-20
-    returns-4)
+    returns-2)
