@@ -7,6 +7,7 @@ use shown::read::number;
 use tried::entry::try_insert;
 use tried::entry::try_remove;
 use tried::entry::try_root;
+use tried::moved::try_move;
 use tried::open::try_open;
 use tried::slot::try_contents;
 use tried::slot::try_length;
@@ -79,6 +80,35 @@ fn insert(
     )
 }
 
+fn carry(
+    words: &[u64],
+    records: &mut [u64],
+    heads: &[u64],
+    times: &[i64],
+    paths: &[u8],
+    bytes: &mut [u8],
+    line: &[u8],
+) -> bool {
+    let mut name = io::buffer();
+    let n = decode(&mut name, 0, field(line, 3));
+    if n > 4096 {
+        return false;
+    }
+    let i = index(line, 1);
+    let dir = index(line, 2);
+    try_move(
+        words,
+        records,
+        heads,
+        times,
+        paths,
+        bytes,
+        i,
+        dir,
+        filled(&name, n),
+    )
+}
+
 fn contents(
     words: &[u64],
     records: &[u64],
@@ -129,6 +159,9 @@ fn entry(
     }
     if same(word, b"remove") {
         return try_remove(words, records, heads, times, paths, bytes, index(line, 1));
+    }
+    if same(word, b"move") {
+        return carry(words, records, heads, times, paths, bytes, line);
     }
     slot(words, records, heads, times, paths, bytes, line, word)
 }

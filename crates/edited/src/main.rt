@@ -2,12 +2,13 @@
 // edit was made, and where it was, the store, read back from its slices.
 //
 // A line is a word and its arguments, split by single spaces:
-//     root MODE TIME | directory AT NAME MODE TIME | file AT NAME MODE TIME BYTES | link AT NAME MODE TIME TARGET | remove AT
-//     mode AT MODE | times AT TIME TIME | contents AT BYTES TIME | length AT N
+//     root MODE TIME | directory AT NAME MODE TIME | file AT NAME MODE TIME BYTES | link AT NAME MODE TIME TARGET
+//     remove AT | move AT DIR NAME | mode AT MODE | times AT TIME TIME | contents AT BYTES TIME | length AT N
 //     open N POSITION PATH | close N | seek N POSITION | current PATH | umask MODE
-// AT is a record's number, N before POSITION and behind `close` a file number. A number is decimal, or hexadecimal behind 0x. In a
-// name, bytes, a target or a path \HH, two hexadecimal digits in small letters, is a byte, and \*NNNN, four decimal digits, repeats
-// the byte before it so that it stands NNNN times. A line that begins with # is skipped; a word that is none makes no edit.
+// AT is a record's number, DIR that of the directory into which AT is moved, N before POSITION and behind `close` a file number. A
+// number is decimal, or hexadecimal behind 0x. In a name, bytes, a target or a path \HH, two hexadecimal digits in small letters, is
+// a byte, and \*NNNN, four decimal digits, repeats the byte before it so that it stands NNNN times. A line that begins with # is
+// skipped; a word that is none makes no edit.
 //
 // An entry is written as `AT PATH [SLOT: TIMES] KIND, MODE, BYTES`, the times accessed, changed, created and modified. An open
 // number is written with its slot, which may have lost its name. A text of more than 40 bytes is its first and last 8, and a sum.

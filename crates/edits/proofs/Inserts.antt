@@ -25,7 +25,7 @@ use Rattle.layout.specs.Alike.{edited, Spells}
 use Rattle.records.specs.Blocks.{rowOf, Opened}
 use Rattle.layout.proofs.Named.{length-rows}
 use Rattle.records.proofs.Entries.{rows-front}
-use Rattle.records.proofs.Fields.{depth-word, nlen-word, slot-word}
+use Rattle.layout.proofs.Worded.{record-depth, record-name, record-slot, head-length, head-kind, head-mode}
 use Rattle.views.specs.Parts.{pathAfter}
 use Rattle.edits.specs.Filling.{timed, Filled}
 use Rattle.edits.specs.Growth.{newRow, Timed, Grown}
@@ -48,18 +48,6 @@ after-length p (r ∷ rs) = omega (arith, after-length (pathOf p r) rs, next (r 
 pub name-short : (x : Name) → T (nameOk x) → length x ≤ 255
 unfolding nameOk
 name-short x t = leb→le (length x) 255 (and-left (leb (length x) 255) _ (and-right (proper x) _ t))
-
--- ---- the fields of a slot's word
-
-module _ (n k m : ℕ) (h : n < 16777216) (j : k < 4) where
-  len-head : lenOf (headWord n k m) ≡ n
-  len-head = omega arith
-
-  kind-head : kindOf (headWord n k m) ≡ k
-  kind-head = omega arith
-
-  mode-head : modeOf (headWord n k m) ≡ m
-  mode-head = omega arith
 
 -- ---- the times
 
@@ -108,11 +96,11 @@ module _ (ts : List ℤ) (s : ℕ) (t : ℤ) (h : 4 * s + 4 ≤ length ts) where
 
 -- the slot of a new entry obeys its rule
 holds-slot : (k n m : ℕ) (c : Bytes) → k < 4 → length c ≡ n → n < 16777216 → Holds k c → T (slotBy (kindOf (headWord n k m)) (headWord n k m) 1 false c)
-holds-slot k n m c j e h y = subst (λ (i : ℕ). T (slotBy i (headWord n k m) 1 false c)) (sym (kind-head n k m h j)) (go k refl y)
+holds-slot k n m c j e h y = subst (λ (i : ℕ). T (slotBy i (headWord n k m) 1 false c)) (sym (head-kind n k m h (omega arith))) (go k refl y)
   where
     go : (i : ℕ) → i ≡ k → Holds i c → T (slotBy i (headWord n k m) 1 false c)
     go zero z w = absurd w
-    go (suc zero) z w = let u : length c ≡ 0 = ap length w in rw (len-head n k m h j ∙ (sym e ∙ u)) tt
+    go (suc zero) z w = let u : length c ≡ 0 = ap length w in rw (head-length n k m h (omega arith) ∙ (sym e ∙ u)) tt
     go (suc (suc zero)) z w = tt
     go (suc (suc (suc zero))) z w = and-both (targetOk c) true w tt
     go (suc (suc (suc (suc i)))) z w = absurd w
@@ -146,7 +134,7 @@ module _ (ws rs hs : List ℕ) (ts : List ℤ) (ps bs : Bytes) (k depth : ℕ) (
       last,
       omega (arith, l .exact .records, i .more),
       omega (arith, l .counted, l .entryLimit .1),
-      ap nlenOf e ∙ nlen-word depth (length x) s small short,
+      ap nlenOf e ∙ record-name depth (length x) s small short,
       omega (arith, i .fits, l .exact .bytes),
     )
 
@@ -178,8 +166,8 @@ module _ (ws rs hs : List ℕ) (ts : List ℤ) (ps bs : Bytes) (k depth : ℕ) (
 
         row-is : rowOf w x ≡ row
         row-is =
-            let d : depthOf w ≡ depth = ap depthOf e ∙ depth-word depth (length x) s small short in
-            let r : slotOf w ≡ s = ap slotOf e ∙ slot-word depth (length x) s small short in
+            let d : depthOf w ≡ depth = ap depthOf e ∙ record-depth depth (length x) s small short in
+            let r : slotOf w ≡ s = ap slotOf e ∙ record-slot depth (length x) s small short in
             rw (d, r) refl
 
         names-kept : take (nameTotal (take (count st + 1) rs′)) bs′ ≡ take (nameTotal (take (count st + 1) rs′)) bs₁
@@ -212,7 +200,7 @@ module _ (ws rs hs : List ℕ) (ts : List ℤ) (ps bs : Bytes) (k depth : ℕ) (
               free = z .1;
               heads = f .heads;
               texts = f .texts ∙ ap (λ (cs : List Bytes). set cs s c) same-texts;
-              size = len-head (length c) kind m n-small kind-small;
+              size = head-length (length c) kind m n-small (omega (arith, kind-small));
               times = timing;
               records = o .recordCount;
               bytes = f .long ∙ o .byteCount;
@@ -222,10 +210,10 @@ module _ (ws rs hs : List ℕ) (ts : List ℤ) (ps bs : Bytes) (k depth : ℕ) (
             }
 
         pub kind-is : kindOf h ≡ kind
-        kind-is = kind-head (length c) kind m n-small kind-small
+        kind-is = head-kind (length c) kind m n-small (omega (arith, kind-small))
 
         pub mode-is : modeOf h ≡ m
-        mode-is = mode-head (length c) kind m n-small kind-small
+        mode-is = head-mode (length c) kind m n-small (omega (arith, kind-small))
 
         pub slot-ok : T (slotBy (kindOf h) h 1 false c)
         slot-ok = holds-slot kind (length c) m c kind-small refl n-small (i .holds)

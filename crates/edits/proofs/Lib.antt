@@ -5,6 +5,7 @@ pub mod Growing
 pub mod Grows
 pub mod Inserts
 pub mod Moves
+pub mod Outside
 pub mod Places
 pub mod Renames
 pub mod Rooting

@@ -11,7 +11,7 @@ use Rattle.layout.specs.Fields.{depthOf, nlenOf, slotOf, recordWord}
 use Rattle.layout.specs.Rows.{Row, rows, nameTotal}
 use Rattle.records.specs.Blocks.{rowOf, Opened, Closed}
 use Rattle.layout.proofs.Named.{length-rows}
-use Rattle.records.proofs.Fields.{depth-word, nlen-word, slot-word, depth-bound}
+use Rattle.layout.proofs.Worded.{record-depth, record-name, record-slot}
 use Rattle.edits.specs.Renaming.{Renamed}
 
 -- a word by its fields, however they were found
@@ -57,7 +57,7 @@ module _ (ws bs : List ℕ) (n i : ℕ) (x : List ℕ) (a : i < n) (b : n ≤ le
       omega arith,
       omega (arith, o .recordCount),
       omega arith,
-      ap nlenOf e ∙ nlen-word (depthOf w) (length x) (slotOf w) (depth-bound w) short,
+      ap nlenOf e ∙ record-name (depthOf w) (length x) (slotOf w) (omega arith) short,
       omega (arith, sum-left, o .byteCount),
     )
 
@@ -89,6 +89,6 @@ module _ (ws bs : List ℕ) (n i : ℕ) (x : List ℕ) (a : i < n) (b : n ≤ le
 
         row-is : rowOf w₂ x ≡ record { depth = depthOf w; name = x; slot = slotOf w }
         row-is =
-            let f : depthOf w₂ ≡ depthOf w = ap depthOf e ∙ depth-word (depthOf w) (length x) (slotOf w) (depth-bound w) short in
-            let g : slotOf w₂ ≡ slotOf w = ap slotOf e ∙ slot-word (depthOf w) (length x) (slotOf w) (depth-bound w) short in
+            let f : depthOf w₂ ≡ depthOf w = ap depthOf e ∙ record-depth (depthOf w) (length x) (slotOf w) (omega arith) short in
+            let g : slotOf w₂ ≡ slotOf w = ap slotOf e ∙ record-slot (depthOf w) (length x) (slotOf w) (omega arith) short in
             rw (f, g) refl

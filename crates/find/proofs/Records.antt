@@ -7,7 +7,7 @@ use mathlib.Core.List.{List, [], _∷_, _++_}
 use mathlib.Core.Logic.{inl, inr}
 use mathlib.Core.Option.{some}
 use mathlib.Core.Path.{_≡_, sym, ap, _∙_, subst}
-use Prim.Native.Nat.{ℕ, zero, suc, _+_, _≤_, _<_}
+use Prim.Native.Nat.{ℕ, zero, suc, _+_, _-_, _≤_, _<_}
 use native.Mathlib.Numerals.{add-one}
 use native.Mathlib.Omega.{arith}
 use lib.Dec.{T, eqb}
@@ -22,8 +22,8 @@ use Rattle.layout.specs.Store.{Store, count, live, rowsOf, kindAt, nodeAt, stat
 use Rattle.layout.specs.Lawful.{walkOk, rootOk, rowsOk, Lawful}
 use Rattle.layout.specs.Alike.{HasSlot}
 use Rattle.layout.proofs.Named.{length-rows, rows-drop}
-use Rattle.layout.proofs.Rising.{follows-by, next-length}
-use Rattle.layout.proofs.Walks.{At, look-at, at-slot}
+use Rattle.layout.proofs.Rising.{Rises, follows-by, next-length}
+use Rattle.layout.proofs.Walks.{At, look-at, at-slot, at-rises}
 use Rattle.layout.proofs.Roots.{root-of, all-slots, all-look}
 use Rattle.layout.proofs.Used.{live-length}
 use Rattle.views.specs.Parts.{pathAfter, dirAfter}
@@ -149,6 +149,23 @@ module _ (st : Store) (l : Lawful st) where
       ∙ next-length p d (r .name) (r .depth)
       (follows-by p d (r .depth) (r .name)
       (walk-follows kinds slots p d r (drop (suc (suc i)) (rowsOf st)) (subst (λ (rs : List Row). T (walkOk kinds slots p d rs)) (rest-at (suc i) h) (walk-behind i))))
+
+  -- it is before that of a later record
+  pub path-rises : (i j : ℕ) → i < j → j < count st → Rises (pathAt st i) (pathAt st j)
+  path-rises i j a h =
+      let p = pathAt st i in
+      let d = dirAfter kinds false (take (suc i) (rowsOf st)) in
+      let m = j - suc i in
+      let e : j ≡ suc i + m = omega arith in
+      let c = take m (drop (suc i) (rowsOf st)) in
+      let r = rowAt st j in
+      let b = drop (suc j) (rowsOf st) in
+      let s : drop (suc i) (rowsOf st) ≡ c ++ (r ∷ b) =
+      sym (take-append-drop m (drop (suc i) (rowsOf st))) ∙ ap (λ (rs : List Row). c ++ rs) (drop-drop m (suc i) (rowsOf st) ∙ ap (λ (k : ℕ). drop k (rowsOf st)) (sym e) ∙ rest-at j h) in
+      let f : pathAfter [] (take j (rowsOf st)) ≡ pathAfter p c =
+      ap (λ (k : ℕ). pathAfter [] (take k (rowsOf st))) e ∙ ap (pathAfter []) (take-add (suc i) m (rowsOf st)) ∙ after-both [] (take (suc i) (rowsOf st)) c in
+      subst (Rises p) (sym (path-next j h ∙ ap (λ (o : Path). pathOf o r) f))
+      (at-rises kinds slots p d (c ++ (r ∷ b)) (subst (λ (rs : List Row). T (walkOk kinds slots p d rs)) s (walk-behind i)) (pathOf (pathAfter p c) r) r (at-seam p c r b))
 
   -- each slot is one of the slots
   pub slotted : Slotted (st .heads) (live st)

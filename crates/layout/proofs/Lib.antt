@@ -11,3 +11,4 @@ pub mod Slotted
 pub mod Used
 pub mod Entered
 pub mod Obeying
+pub mod Worded

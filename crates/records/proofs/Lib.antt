@@ -1,4 +1,3 @@
-pub mod Fields
 pub mod Entries
 pub mod Lifts
 pub mod Opens

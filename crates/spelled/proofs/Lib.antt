@@ -5,7 +5,7 @@ pub mod Spelling
 pub mod Tracing
 pub mod Items
 pub mod Housing
-pub mod Worded
+pub mod Listed
 pub mod Fitting
 pub mod Written
 pub mod Stored

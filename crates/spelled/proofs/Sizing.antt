@@ -21,6 +21,7 @@ use Rattle.model.proofs.SoundPaths.{name-parts, names-parts, path-names, name-l
 use Rattle.layout.specs.Store.{slotsFor}
 use Rattle.layout.specs.Lawful.{Sized}
 use Rattle.layout.proofs.Climbing.{Ascends}
+use Rattle.layout.proofs.Worded.{head-small}
 use Rattle.spelled.proofs.Byted.{text-bytes}
 use Rattle.spelled.proofs.Fitting.{no-bytes, Fits, fits}
 use Rattle.spelled.proofs.Housing.{stands}
@@ -29,7 +30,7 @@ use Rattle.spelled.proofs.Placing.{rows-fit}
 use Rattle.spelled.proofs.Slotting.{path-short}
 use Rattle.spelled.proofs.Stored.{rowsIn, numberWord, wordOf, wordsOf, recordsOf, headsOf, timesOf, pathsOf, joined, bytesOf, spell}
 use Rattle.spelled.proofs.Tracing.{rowsFrom}
-use Rattle.spelled.proofs.Worded.{tab, tab-all, head-small}
+use Rattle.spelled.proofs.Listed.{tab, tab-all}
 use Rattle.spelled.proofs.Written.{nameText, records-small, headOf, joinFrom, timeOf, keptText, textOf}
 
 -- ---- bytes

@@ -30,8 +30,8 @@ use Rattle.spelled.proofs.Housing.{Is, is, stands}
 use Rattle.spelled.proofs.Items.{Item, freeItem, fileItem, itemOf, item, home}
 use Rattle.spelled.proofs.Placing.{uses-past, uses-in, rows-are}
 use Rattle.layout.proofs.Climbing.{Ascends}
+use Rattle.layout.proofs.Worded.{head-length}
 use Rattle.spelled.proofs.Stored.{headsOf, holderBy, spell, here-back, holder-back, kept-back, text-back, heads-length, head-back, kind-back, bytes-back}
-use Rattle.spelled.proofs.Worded.{head-length}
 use Rattle.spelled.proofs.Written.{headOf, keptText, textOf}
 
 -- ---- a path in its cell

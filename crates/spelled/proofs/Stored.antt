@@ -18,10 +18,11 @@ use Rattle.layout.specs.Fields.{kindOf, modeOf}
 use Rattle.layout.specs.Rows.{Row, rows, nameTotal}
 use Rattle.layout.specs.Slots.{total, split, start}
 use Rattle.layout.specs.Store.{Store, most, room, count, mask, hereLength, holder, position, keptLength, cell, slotsFor, live, rowsOf, metaAt, bytesAt, kindAt}
+use Rattle.layout.proofs.Worded.{head-kind, head-mode}
 use Rattle.spelled.proofs.Fitting.{fits}
 use Rattle.spelled.proofs.Items.{item, home}
 use Rattle.spelled.proofs.Tracing.{rowsFrom, Fit}
-use Rattle.spelled.proofs.Worded.{tab, tab-length, tab-at, head-kind, head-mode}
+use Rattle.spelled.proofs.Listed.{tab, tab-length, tab-at}
 use Rattle.spelled.proofs.Written.{recordOf, nameText, rows-back, names-counted, headOf, joinFrom, split-back, total-joined, timeOf, keptText, textOf, cell-back}
 
 module _ (s : State) where

@@ -14,10 +14,11 @@ use Rattle.model.specs.Calls.{State}
 use Rattle.layout.specs.Fields.{recordWord, headWord, lenOf}
 use Rattle.layout.specs.Rows.{Row, rows, nameTotal}
 use Rattle.layout.specs.Slots.{total, split}
+use Rattle.layout.proofs.Worded.{head-length, record-depth, record-name, record-slot, record-small}
 use Rattle.spelled.proofs.Fitting.{Fits}
 use Rattle.spelled.proofs.Items.{Item}
 use Rattle.spelled.proofs.Tracing.{Fit}
-use Rattle.spelled.proofs.Worded.{tab, tab-length, tab-at, head-length, record-depth, record-name, record-slot, record-small}
+use Rattle.spelled.proofs.Listed.{tab, tab-length, tab-at}
 
 -- ---- records and names
 

@@ -1,3 +1,4 @@
 pub mod Asking
 pub mod Spots
 pub mod Walked
+pub mod Ways

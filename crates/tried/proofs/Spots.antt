@@ -17,7 +17,6 @@ use Rattle.path.specs.Answer.{PieceIs}
 use Rattle.path.proofs.Cutting.{NoSlash, pieces-no-slash}
 use Rattle.path.proofs.Every.{Every}
 use Rattle.path.proofs.Laws.{and-left, and-right}
-use Rattle.model.specs.Tree.{Path}
 use Rattle.model.specs.Rules.{nameOk}
 use Rattle.model.proofs.Entries.{is-true}
 use Rattle.layout.specs.Fields.{depthOf}
@@ -29,11 +28,12 @@ use Rattle.lawful.proofs.KeptPaths.{piece-name}
 use Rattle.views.specs.Parts.{Deeper}
 use Rattle.find.specs.declared.Place.the-variants.{Missing}
 use Rattle.find.specs.Finds.{findIn}
-use Rattle.find.specs.Paths.{slotAt, pathAt}
+use Rattle.find.specs.Paths.{slotAt}
 use Rattle.find.proofs.Places.{missing-gap}
 use Rattle.find.proofs.Blocks.{blockEnd, block-after, block-last, block-parts}
-use Rattle.edits.specs.Insertion.{Vacancy, Holds}
+use Rattle.edits.specs.Insertion.{Holds}
 use Rattle.removes.specs.Removal.{Block}
+use Rattle.tried.specs.Tried.{Spotted}
 
 -- a text whose last piece is all of it has no slash
 pub name-said : (s : Bytes) (a : ℕ) → a ≡ 0 → PieceIs s a (length s) → T (pieceOk s) → T (nameOk s)
@@ -50,12 +50,12 @@ nothing (b ∷ s) e = absurd (omega arith)
 pub holds-nothing : (kind : ℕ) (s : Bytes) → kind ≡ 1 → length s ≡ 0 → Holds kind s
 holds-nothing kind s z e = subst (λ (k : ℕ). Holds k s) (sym z) (nothing s e)
 
-pub vacancy : (st : Store) (l : Lawful st) (i : ℕ) → i < count st → kindAt st (slotAt st i) ≡ 1 → (x : Name) → T (nameOk x) → (o : ℕ) → o ≡ nameTotal (take (i + 1) (st .records))
+pub spotted : (st : Store) (l : Lawful st) (i : ℕ) → i < count st → kindAt st (slotAt st i) ≡ 1 → (x : Name) → T (nameOk x) → (o : ℕ) → o ≡ nameTotal (take (i + 1) (st .records))
     → (j b depth : ℕ) → depth ≡ depthOf (getD (st .records) i 0) + 1 → Missing j b ≡ findIn (depthOf (getD (st .records) i 0)) x (drop (i + 1) (rowsOf st)) (i + 1) o
-    → (q : Path) × Vacancy st j depth q x
-vacancy st l i h d x n o e j b depth y z =
+    → Spotted st i j depth x
+spotted st l i h d x n o e j b depth y z =
     let m = missing-gap st l i h d x o e j b z in
-    (pathAt st i, record { first = omega (arith, m .after); last = m .within; deep = y ∙ m .deep; name = n; gap = m .gap; missing = m .missing })
+    record { after = m .after; vacant = record { first = omega (arith, m .after); last = m .within; deep = y ∙ m .deep; name = n; gap = m .gap; missing = m .missing } }
 
 drop-of-take : {A : Type 0} (m n : ℕ) (l : List A) → drop m (take n l) ≡ take (n - m) (drop m l)
 drop-of-take zero n l = let e : n ≡ n - 0 = omega arith in ap (λ (k : ℕ). take k l) e

@@ -10,6 +10,7 @@ ghost use Rattle.layout.specs.Store.{lent, count, kindAt};
 ghost use Rattle.layout.specs.Lawful.{Lawful};
 ghost use Rattle.find.specs.Paths.{slotAt};
 ghost use Rattle.edits.specs.Insertion.{Vacancy, Holds, Insertable};
+ghost use Rattle.tried.specs.Tried.{Spotted};
 use find::Place;
 
 // Whether it is a name that can stand in a directory.
@@ -48,8 +49,8 @@ pub struct Spot {
     pub depth: usize,
 }
 
-// Where the entry `name` of the directory at record dir may be made.
-pub fn spot_for(
+// Where the entry `name` of the directory at record dir would stand, where there is none.
+pub fn spot_in(
     words: &[u64],
     records: &[u64],
     heads: &[u64],
@@ -60,7 +61,7 @@ pub fn spot_for(
     name: &[u8],
 ) -> Spot
     requires { ⌜ Lawful (lent (now words) (now records) (now heads) (now times) (now paths) (now bytes)) ⌝ }
-    ensures { λ r. ⌜ ((r .at ≡ 0 → ⊥) → (q : Path) × Vacancy (lent (now (words .entry)) (now (records .entry)) (now (heads .entry)) (now (times .entry)) (now (paths .entry)) (now (bytes .entry))) (r .at) (r .depth) q (now (name .entry))) ⌝ }
+    ensures { λ r. ⌜ ((r .at ≡ 0 → ⊥) → Spotted (lent (now (words .entry)) (now (records .entry)) (now (heads .entry)) (now (times .entry)) (now (paths .entry)) (now (bytes .entry))) dir (r .at) (r .depth) (now (name .entry))) ⌝ }
 {
     if !is_dir(words, records, heads, times, paths, bytes, dir) {
         return Spot { at: 0, depth: 0 };
@@ -75,6 +76,23 @@ pub fn spot_for(
         Place::Found { at, off } => Spot { at: 0, depth },
         Place::Missing { at, off } => Spot { at, depth },
     }
+}
+
+// Where the entry `name` of the directory at record dir may be made.
+pub fn spot_for(
+    words: &[u64],
+    records: &[u64],
+    heads: &[u64],
+    times: &[i64],
+    paths: &[u8],
+    bytes: &[u8],
+    dir: usize,
+    name: &[u8],
+) -> Spot
+    requires { ⌜ Lawful (lent (now words) (now records) (now heads) (now times) (now paths) (now bytes)) ⌝ }
+    ensures { λ r. ⌜ ((r .at ≡ 0 → ⊥) → (q : Path) × Vacancy (lent (now (words .entry)) (now (records .entry)) (now (heads .entry)) (now (times .entry)) (now (paths .entry)) (now (bytes .entry))) (r .at) (r .depth) q (now (name .entry))) ⌝ }
+{
+    spot_in(words, records, heads, times, paths, bytes, dir, name)
 }
 
 // Whether an entry of that kind may hold the bytes.

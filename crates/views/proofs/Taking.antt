@@ -23,7 +23,7 @@ use Rattle.views.proofs.Removing.{walk-follows, rises-behind}
 use Rattle.views.proofs.Blocked.{at-path, at-length, below-ok, behind-ok, behind-start, behind-stand, behind-none, block-none, before-rises}
 
 -- an entry that is not the root has a name
-one-deep : (p : Path) (d : Bool) (k : ℕ) (x : Name) → T (follows p d k x) → (j : ℕ) × (k ≡ suc j)
+pub one-deep : (p : Path) (d : Bool) (k : ℕ) (x : Name) → T (follows p d k x) → (j : ℕ) × (k ≡ suc j)
 one-deep p d zero x t = absurd t
 one-deep p d (suc k) x t = (k, refl)
 
