@@ -6,18 +6,18 @@ use mathlib.Core.Path.{_≡_, refl, sym, ap, _∙_}
 use Prim.Native.Nat.{ℕ, zero, suc, _+_, _-_, _≤_, _<_}
 use native.Mathlib.Numerals.{add-one}
 use native.Mathlib.Omega.{arith}
-use lib.Dec.{T, eqb, leb}
+use lib.Dec.{eqb, leb}
 use lib.ListN.{length, take, drop, getD, length-take, drop-of-length-le}
 use lib.Seq.{take-add, drop-cons, drop-drop}
-use borrow.Author.Tests.{le-leb, eqb-false, leb-false}
+use borrow.Author.Tests.{le-leb}
 use Rattle.text.specs.Utf8.{Bytes, text}
-use Rattle.text.proofs.Laws.{text-none, text-ascii}
+use Rattle.text.specs.Looks.{odd}
+use Rattle.text.proofs.Looking.{or-left, or-right, plain-text}
 use Rattle.path.specs.Path.{Name, noSlash}
-use Rattle.model.proofs.Entries.{is-true}
 use Rattle.layout.specs.Fields.{nlenOf}
 use Rattle.layout.specs.Rows.{Row, rows, nameTotal}
 use Rattle.entries.specs.Fits.{rowAt}
-use Rattle.entries.specs.Looks.{any, slash, odd, cleanName, cleanRows, textRows}
+use Rattle.entries.specs.Looks.{any, slash, cleanName, cleanRows, textRows}
 
 pub any-none : (f : ℕ → Bool) → false ≡ any f []
 unfolding any
@@ -29,6 +29,13 @@ unfolding any
 any-more f [] i h = absurd (omega arith)
 any-more f (x ∷ s) zero h = or-false (f x)
 any-more f (x ∷ s) (suc i) h = ap (λ (b : Bool). f x || b) (any-more f s i (omega arith)) ∙ sym (or-assoc (f x) (any f (take i s)) (f (getD s i 0)))
+
+-- where the test holds of no byte
+none-at : (f : ℕ → Bool) (s : Bytes) → any f s ≡ false → (k : ℕ) → k < length s → f (getD s k 0) ≡ false
+unfolding any
+none-at f [] e k h = absurd (omega arith)
+none-at f (b ∷ s) e zero h = or-left (f b) (any f s) e
+none-at f (b ∷ s) e (suc k) h = none-at f s (or-right (f b) (any f s) e) k (omega arith)
 
 any-append : (f : ℕ → Bool) (s t : Bytes) → any f (s ++ t) ≡ any f s || any f t
 unfolding any
@@ -65,27 +72,6 @@ pub and-true-right : (a b : Bool) → a && b ≡ true → b ≡ true
 and-true-right true b e = e
 and-true-right false b e = absurd (let z : _≡_ {A = ℕ} 0 1 = cc in omega arith)
 
-or-left : (a b : Bool) → a || b ≡ false → a ≡ false
-or-left true b e = e
-or-left false b e = refl
-
-or-right : (a b : Bool) → a || b ≡ false → b ≡ false
-or-right true b e = absurd (let z : _≡_ {A = ℕ} 0 1 = cc in omega arith)
-or-right false b e = e
-
--- bytes that are text by themselves
-plain-text : (n : Name) → any odd n ≡ false → T (text n)
-unfolding any
-plain-text [] e = text-none
-plain-text (b ∷ n) e =
-    let o = or-left (odd b) (any odd n) e in
-    let z = eqb-false b 0 (or-left (eqb b 0) (leb 128 b) o) in
-    text-ascii b n (pos b z) (leb-false 128 b (or-right (eqb b 0) (leb 128 b) o)) (plain-text n (or-right (odd b) (any odd n) e))
-  where
-    pos : (b : ℕ) → (b ≡ 0 → ⊥) → 1 ≤ b
-    pos zero z = absurd (z refl)
-    pos (suc b) z = omega arith
-
 -- a name with a slash
 slash-row : (rs : List Row) → anyRow slash rs ≡ true → cleanRows rs ≡ false
 unfolding anyRow cleanRows
@@ -112,7 +98,7 @@ no-slash-rows (w ∷ ws) bs e =
 plain-rows : (rs : List Row) → anyRow odd rs ≡ false → textRows rs ≡ true
 unfolding anyRow textRows
 plain-rows [] e = refl
-plain-rows (r ∷ rs) e = rw (is-true (text (r .name)) (plain-text (r .name) (or-left (any odd (r .name)) (anyRow odd rs) e))) (plain-rows rs (or-right (any odd (r .name)) (anyRow odd rs) e))
+plain-rows (r ∷ rs) e = rw (plain-text (r .name) (λ k h _. none-at odd (r .name) (or-left (any odd (r .name)) (anyRow odd rs) e) k h)) (plain-rows rs (or-right (any odd (r .name)) (anyRow odd rs) e))
 
 module _ (ws : List ℕ) (bs : Bytes) (n : ℕ) (q : n ≡ nameTotal ws) where
   seen : (f : ℕ → Bool) (t : Bool) → t ≡ any f (take n bs) → anyRow f (rows ws bs) ≡ t

@@ -18,10 +18,6 @@ any f (b ∷ s) = f b || any f s
 abbrev pub slash : ℕ → Bool
 slash b = eqb b 47
 
--- a byte that is text only with those around it, or never
-abbrev pub odd : ℕ → Bool
-odd b = eqb b 0 || leb 128 b
-
 -- no slash, at most 255 bytes, valid text
 abbrev pub cleanName : Name → Bool
 cleanName n = noSlash n && (leb (length n) 255 && text n)

@@ -2,8 +2,9 @@
 ghost use mathlib.Core.Path.{_≡_};
 ghost use Prim.Native.Nat.{_+_, _≤_};
 ghost use lib.ListN.{length};
+ghost use Rattle.text.specs.Looks.{odd};
 ghost use Rattle.layout.specs.Rows.{rows, nameTotal};
-ghost use Rattle.entries.specs.Looks.{any, slash, odd, cleanRows, textRows};
+ghost use Rattle.entries.specs.Looks.{any, slash, cleanRows, textRows};
 use text::text_ok;
 
 pub struct Seen {

@@ -4,3 +4,4 @@ pub mod Laws
 pub mod Grammar
 pub mod Turns
 pub mod Lead
+pub mod Looking

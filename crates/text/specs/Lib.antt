@@ -1,3 +1,4 @@
 pub mod Utf8
 pub mod Classes
 pub mod Steps
+pub mod Looks

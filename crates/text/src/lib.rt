@@ -1,4 +1,5 @@
 // Text of a path or a target (refusal 2): RFC 3629, without the zero byte.
+ghost use mathlib.Core.Bool.{true};
 ghost use mathlib.Core.Path.{_≡_};
 ghost use Prim.Native.Nat.{_+_, _≤_, _<_};
 ghost use mathlib.Core.List.{[], _∷_};
@@ -6,6 +7,7 @@ ghost use lib.ListN.{length, drop, getD, replicate};
 ghost use Rattle.text.specs.Utf8.{tail, rows, starts, charLength, text};
 ghost use Rattle.text.specs.Classes.{classOf, table};
 ghost use Rattle.text.specs.Steps.{plain, secondOf};
+ghost use Rattle.text.specs.Looks.{Plain};
 
 // The class of each byte. 0 to 8: it begins that row of the RFC's grammar. 9 to 11: 80-8F, 90-9F, A0-BF, which continue a
 // character. 12: it stands in no valid text. A byte string, since the formatter gives each element of an array a line.
@@ -150,10 +152,66 @@ fn walk(classes: &[u8; 256], s: &[u8]) -> bool
     true
 }
 
-// Whether s is text. The copy of the table is made once, and not at every octet.
+// Whether the octets of s[a..e] are ASCII, and none is zero. The loop has no way out, so that the compiler tests many at a time.
+fn all_plain(s: &[u8], a: usize, e: usize) -> bool
+    requires { ⌜ (a ≤ e) × (e ≤ length (now s)) ⌝ }
+    ensures { λ r. ⌜ (r ≡ true → Plain (now (s .entry)) a e) ⌝ }
+{
+    let mut seen = false;
+    let mut i = a;
+    while i < e {
+        let b = s[i];
+        seen = seen | (b == 0) | (128 <= b);
+        i += 1;
+    }
+    !seen
+}
+
+// How many octets from the first on are so, in steps of 16, the width of a machine register.
+fn plain_front(s: &[u8]) -> usize
+    ensures { λ r. ⌜ (r ≤ length (now (s .entry))) × Plain (now (s .entry)) 0 r ⌝ }
+{
+    let mut i = 0;
+    while s.len() - i >= 16 {
+        if !all_plain(s, i, i + 16) {
+            return i;
+        }
+        i += 16;
+    }
+    i
+}
+
+// Whether those from a on are so too. Where 16 are left, the first of them are not. Else the last 16, or the first and the last 8,
+// are tested, though some were before: octets one by one take longer.
+fn plain_rest(s: &[u8], a: usize) -> bool
+    requires { ⌜ a ≤ length (now s) ⌝ }
+    ensures { λ r. ⌜ (r ≡ true → Plain (now (s .entry)) a (length (now (s .entry)))) ⌝ }
+{
+    let n = s.len();
+    if 16 <= n - a {
+        return false;
+    }
+    if 16 <= n {
+        return all_plain(s, n - 16, n);
+    }
+    if n < 8 {
+        return all_plain(s, a, n);
+    }
+    if !all_plain(s, 0, 8) {
+        return false;
+    }
+    all_plain(s, n - 8, n)
+}
+
+// Whether s is text. Most text is ASCII, which a look tells. Else the table is copied, once and not at every octet, and what the
+// look passed does not decide.
 pub fn text_ok(s: &[u8]) -> bool
     ensures { λ r. ⌜ r ≡ text (now (s .entry)) ⌝ }
 {
+    let a = plain_front(s);
+    if plain_rest(s, a) {
+        return true;
+    }
     let classes = CLASSES;
-    walk(&classes, s)
+    walk(&classes, &s[a..])
 }

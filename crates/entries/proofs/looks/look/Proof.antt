@@ -8,6 +8,7 @@ use native.Mathlib.Omega.{arith}
 use lib.Dec.{eqb, leb}
 use lib.ListN.{length, take, getD}
 use lib.Seq.{take-all}
+use Rattle.text.specs.Looks as octets
 use Rattle.entries.specs.Looks.{any}
 use Rattle.entries.specs.Looks as looks
 use Rattle.entries.proofs.Looking.{any-none, any-more}
@@ -15,13 +16,13 @@ use Rattle.entries.proofs.looks.look.Statement.{statement}
 use Rattle.entries.proofs.looks.look.Tie as tie
 
 abbrev Inv-loop : tie.InvT-loop
-Inv-loop s slash₀ odd₀ i₀ slash odd i = (i ≤ length s) × (slash ≡ any looks.slash (take i s)) × (odd ≡ any looks.odd (take i s))
+Inv-loop s slash₀ odd₀ i₀ slash odd i = (i ≤ length s) × (slash ≡ any looks.slash (take i s)) × (odd ≡ any octets.odd (take i s))
 
 abbrev μ-loop : tie.MeasureT-loop
 μ-loop s slash₀ odd₀ i₀ slash odd i = length s - i
 
 loop-holds : tie.Need-loop-holds Inv-loop μ-loop
-loop-holds c = (omega arith, any-none looks.slash, any-none looks.odd)
+loop-holds c = (omega arith, any-none looks.slash, any-none octets.odd)
 
 shared-slice-read-b : tie.Need-shared-slice-read-b Inv-loop μ-loop
 shared-slice-read-b c = omega arith
@@ -37,13 +38,13 @@ loop-again c = let a = c .before .before .before .args in let l = c .before .bef
     let x : ℕ = getD (a .s .now) (l .i) 0 in (
       omega arith,
       ap (λ (b : Bool). b || looks.slash x) (l .inv .1) ∙ rw add-one (sym (any-more looks.slash (a .s .now) (l .i) (omega arith))),
-      or-assoc (l .odd) (eqb x 0) (leb 128 x) ∙ ap (λ (b : Bool). b || looks.odd x) (l .inv .2) ∙ rw add-one (sym (any-more looks.odd (a .s .now) (l .i) (omega arith))),
+      or-assoc (l .odd) (eqb x 0) (leb 128 x) ∙ ap (λ (b : Bool). b || octets.odd x) (l .inv .2) ∙ rw add-one (sym (any-more octets.odd (a .s .now) (l .i) (omega arith))),
     )
 
 returns : tie.Need-returns Inv-loop μ-loop
 returns c = let a = c .before .before .args in let l = c .before .loop in
     let e = take-all (l .i) (a .s .now) (omega arith) in
-    (l .inv .1 ∙ ap (any looks.slash) e, l .inv .2 ∙ ap (any looks.odd) e)
+    (l .inv .1 ∙ ap (any looks.slash) e, l .inv .2 ∙ ap (any octets.odd) e)
 
 pub look-spec : {M : Type 1} → statement M
 look-spec =

@@ -1,0 +1,6 @@
+pub mod Bare
+pub mod Children
+pub mod Ordered
+pub mod Steps
+pub mod Texts
+pub mod Words
