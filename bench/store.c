@@ -14,6 +14,7 @@ enum { DIRECTORY = 1, FILE_KIND = 2, LINK = 3 };
 static uint64_t words[101], records[MOST], heads[MOST + SPARE];
 static int64_t times[4 * (MOST + SPARE)];
 static uint8_t paths[CELLS], bytes[ROOM];
+static size_t slots[MOST + SPARE]; /* the slot of each entry */
 static size_t limit, held; /* held: the bytes that the slots have so far */
 static volatile uint64_t sink;
 
@@ -31,14 +32,30 @@ static void set_up(size_t entries) {
     words[1] = ROOM;
     words[3] = 0666;
     held = 0;
+    for (size_t i = 0; i < MOST + SPARE; i++)
+        slots[i] = i;
 }
 
-/* The next entry in the order of a walk. Its slot has the same number. */
+/* Slots in no order: the last is the first entry's, and the others are mixed. */
+static void scatter(void) {
+    size_t last = limit + SPARE - 1;
+    uint32_t x = 1;
+    for (size_t i = last; i > 1; i--) {
+        x = x * 1664525u + 1013904223u;
+        size_t j = (x >> 8) % i, s = slots[i - 1];
+        slots[i - 1] = slots[j];
+        slots[j] = s;
+    }
+    slots[last] = slots[0];
+    slots[0] = last;
+}
+
+/* The next entry in the order of a walk. */
 static void entry(uint64_t depth, uint64_t kind, uint64_t length) {
     uint64_t i = words[2]++, name = depth ? NAME : 0;
     char s[NAME + 1];
-    records[i] = depth | name << 16 | i << 24;
-    heads[i] = length | kind << 24 | (uint64_t)0755 << 32;
+    records[i] = depth | name << 16 | (uint64_t)slots[i] << 24;
+    heads[slots[i]] = length | kind << 24 | (uint64_t)0755 << 32;
     if (!depth)
         return;
     snprintf(s, sizeof s, "table%05u", (unsigned)i);
@@ -62,13 +79,25 @@ static void leaf(uint64_t depth, size_t i) {
     entry(depth, kind, kind == DIRECTORY ? 0 : 8);
 }
 
-/* All in the root, under an entry limit that may be higher. */
-static void flat(size_t n, size_t entries) {
-    set_up(entries);
+/* n entries, all in the root. */
+static void in_the_root(size_t n) {
     entry(0, DIRECTORY, 0);
     for (size_t i = 1; i < n; i++)
         leaf(1, i);
     slots_right();
+}
+
+/* The same under an entry limit that may be higher. */
+static void flat(size_t n, size_t entries) {
+    set_up(entries);
+    in_the_root(n);
+}
+
+/* The same with their slots in no order, free ones among them up to the last. */
+static void scattered(size_t n, size_t entries) {
+    set_up(entries);
+    scatter();
+    in_the_root(n);
 }
 
 /* Directories in the root, each with 15 entries: 16 with itself. */
@@ -164,6 +193,8 @@ static void others(void) {
     line("no entry", 0);
     flat(511, MOST);
     line("all in the root, the limit not reached", 0);
+    scattered(512, MOST);
+    line("all in the root, slots scattered", 0);
     links(511);
     line("all in the root, links only", 0);
 }

@@ -1,4 +1,4 @@
 pub mod Looking
 pub mod Walking
 pub mod Joining
-pub mod Alike
+pub mod Ordered

@@ -2,13 +2,12 @@
 -- Assumes nothing.
 use mathlib.Core.Bool.{Bool, true, _&&_, not}
 use mathlib.Core.List.{List, [], _∷_}
-use mathlib.Core.Path.{_≡_}
 use Prim.Native.Nat.{ℕ, _+_, _/_, _%_, _≤_, _<_}
 use lib.Dec.{eqb, ltb}
 use lib.ListN.{length, take, drop, getD}
 use Rattle.text.specs.Utf8.{Bytes}
 use Rattle.path.specs.Path.{Name, vanishes, isUp}
-use Rattle.model.specs.Tree.{Path, before}
+use Rattle.model.specs.Tree.{Path}
 use Rattle.layout.specs.Fields.{depthOf, nlenOf, slotOf, kindOf}
 use Rattle.layout.specs.Rows.{Row, pathOf}
 use Rattle.layout.specs.Lawful.{follows, rootOk}
@@ -51,9 +50,3 @@ spell bs (v ∷ vs) = nameAt bs v ∷ spell bs vs
 -- the first d numbers say names within the bytes
 abbrev pub Spelt : ℕ → List ℕ → ℕ → Type 0
 Spelt n last d = (k : ℕ) → k < d → getD last k 0 / 256 + getD last k 0 % 256 ≤ n
-
--- the first n bytes of two names do not decide which is before the other
-pub record Passed (a b : Name) (n : ℕ) : Type 0 where
-  pub left : n ≤ length a
-  pub right : n ≤ length b
-  pub rest : before a b ≡ before (drop n a) (drop n b)

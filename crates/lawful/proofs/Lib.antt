@@ -1,4 +1,5 @@
 pub mod Sums
 pub mod KeptPaths
 pub mod Slotting
+pub mod Ending
 pub mod Whole

@@ -8,7 +8,7 @@ use native.Mathlib.Numerals.{add-one}
 use native.Mathlib.Omega.{arith}
 use lib.Dec.{T, eqb, leb, ltb, ltb→lt, leb→le}
 use lib.ListN.{drop, getD}
-use borrow.Author.Tests.{eq-eqb, ne-eqb, le-leb, lt-leb, eqb-true}
+use borrow.Author.Tests.{eq-eqb, ne-eqb, le-leb, lt-leb, ltb-true, ltb-false, eqb-true, eqb-false}
 use Rattle.text.specs.Utf8.{Bytes, octets, text}
 use Rattle.path.specs.Path.{pieces, allShort, lengthsOk}
 use Rattle.path.proofs.Laws.{and-left, and-right, and-both}
@@ -93,7 +93,7 @@ module _ (words : List ℕ) (paths : Bytes) (n j : ℕ) where
   pub number-open : (number ≡ 0 → ⊥) → number ≤ n → (t : Bool) → t ≡ keptIn paths (j + 1) (getD words (7 + 3 * j) 0) → numberIn words paths n j ≡ t
   number-open z h t e = rw (ne-eqb number 0 z, le-leb number n h) (sym (e ∙ ap (λ (i : ℕ). keptIn paths i (getD words (7 + 3 * j) 0)) (add-one j)))
 
-  number-stands : T (numberIn words paths n j) → number ≤ n
+  pub number-stands : T (numberIn words paths n j) → number ≤ n
   number-stands t = go (eqb number 0) refl t
     where
       go : (b : Bool) → eqb number 0 ≡ b → T (b || (leb number n && kept)) → number ≤ n
@@ -117,6 +117,22 @@ LinksTo heads bs i = (k : ℕ) → k < i → T (linkBy (kindOf (getD heads k 0))
 
 pub link-other : (kind : ℕ) (s : Bytes) → (kind ≡ 3 → ⊥) → T (linkBy kind s)
 link-other kind s n = rw (ne-eqb kind 3 n) tt
+
+-- one slot more that is no link
+pub others-more : (heads : List ℕ) (i slot : ℕ) → ((k : ℕ) → i ≤ k → k < slot → kindOf (getD heads k 0) ≡ 3 → ⊥) → (kindOf (getD heads slot 0) ≡ 3 → ⊥) → (k : ℕ) → i ≤ k → k < slot + 1 → kindOf (getD heads k 0) ≡ 3 → ⊥
+others-more heads i slot f n k l h = go (eqb k slot) refl
+  where
+    go : (t : Bool) → eqb k slot ≡ t → kindOf (getD heads k 0) ≡ 3 → ⊥
+    go true q = λ e. n (ap (λ (x : ℕ). kindOf (getD heads x 0)) (sym (eqb-true k slot q)) ∙ e)
+    go false q = f k l (omega (arith, eqb-false k slot q))
+
+-- the links before slot e, where none is from slot i on
+pub links-skip : (heads : List ℕ) (bs : Bytes) (i e : ℕ) → LinksTo heads bs i → ((k : ℕ) → i ≤ k → k < e → kindOf (getD heads k 0) ≡ 3 → ⊥) → LinksTo heads bs e
+links-skip heads bs i e f n k h = go (ltb k i) refl
+  where
+    go : (t : Bool) → ltb k i ≡ t → T (linkBy (kindOf (getD heads k 0)) (getD (contents heads bs) k []))
+    go true q = f k (ltb-true k i q)
+    go false q = link-other (kindOf (getD heads k 0)) (getD (contents heads bs) k []) (n k (ltb-false k i q) h)
 
 pub link-is : (kind : ℕ) (s u : Bytes) (t : Bool) → kind ≡ 3 → s ≡ u → t ≡ targetOk u → linkBy kind s ≡ t
 link-is kind s u t e q p = rw (eq-eqb kind 3 e, q) (sym p)

@@ -1,11 +1,12 @@
 -- Sums over words, one word further, and the bytes of a slot by the sum of the slots before it.
 -- Assumes nothing.
 use mathlib.Core.List.{List, [], _∷_}
-use mathlib.Core.Path.{_≡_, refl, sym, ap, _∙_}
+use mathlib.Core.Path.{_≡_, refl, ap, _∙_}
 use Prim.Native.Nat.{ℕ, zero, suc, _+_, _-_, _≤_, _<_}
+use native.Mathlib.Numerals.{add-one}
 use native.Mathlib.Omega.{arith}
 use lib.ListN.{length, take, drop, getD}
-use lib.Seq.{drop-drop}
+use lib.Seq.{drop-cons, drop-drop}
 use Rattle.text.specs.Utf8.{Bytes}
 use Rattle.layout.specs.Fields.{nlenOf, lenOf}
 use Rattle.layout.specs.Rows.{nameTotal}
@@ -27,13 +28,6 @@ sum-more f [] i h = absurd (omega arith)
 sum-more f (w ∷ ws) zero h = omega arith
 sum-more f (w ∷ ws) (suc i) h = let r = sum-more f ws i (omega arith) in omega arith
 
--- the first words have no more than all
-pub sum-most : (f : ℕ → ℕ) (ws : List ℕ) (i : ℕ) → sumBy f (take i ws) ≤ sumBy f ws
-unfolding sumBy
-sum-most f ws zero = omega arith
-sum-most f [] (suc i) = omega arith
-sum-most f (w ∷ ws) (suc i) = let r = sum-most f ws i in omega arith
-
 pub sum-names : (ws : List ℕ) → sumBy nlenOf ws ≡ nameTotal ws
 unfolding sumBy nameTotal
 sum-names [] = refl
@@ -51,14 +45,23 @@ split-at [] s k h = absurd (omega arith)
 split-at (x ∷ hs) s zero h = refl
 split-at (x ∷ hs) s (suc k) h = split-at hs (drop (lenOf x) s) k (omega arith) ∙ ap (take (lenOf (getD hs k 0))) (drop-drop (sumBy lenOf (take k hs)) (lenOf x) s)
 
--- the same in the byte storage
-pub contents-at : (hs : List ℕ) (bs : Bytes) (k a e : ℕ) → k < length hs → a ≡ start hs bs + sumBy lenOf (take k hs) → e ≡ a + lenOf (getD hs k 0)
-    → getD (contents hs bs) k [] ≡ take (e - a) (drop a bs)
-contents-at hs bs k a e h p q =
-    let n : lenOf (getD hs k 0) ≡ e - a = omega arith in
-    split-at hs (drop (start hs bs) bs) k h ∙ ap (take (lenOf (getD hs k 0))) (drop-drop (sumBy lenOf (take k hs)) (start hs bs) bs ∙ ap (λ (i : ℕ). drop i bs) (sym p))
-    ∙ ap (λ (i : ℕ). take i (drop a bs)) n
+-- the words before slot k, and those from it on
+sum-rest : (hs : List ℕ) (k : ℕ) → sumBy lenOf (take k hs) + total (drop k hs) ≡ total hs
+unfolding sumBy total
+sum-rest hs zero = omega arith
+sum-rest [] (suc k) = omega arith
+sum-rest (h ∷ hs) (suc k) = let r = sum-rest hs k in omega arith
 
--- the bytes of the next slot are within the byte storage
-pub slot-room : (hs : List ℕ) (bs : Bytes) (i a : ℕ) → i < length hs → total hs ≤ length bs → a ≡ start hs bs + sumBy lenOf (take i hs) → a + lenOf (getD hs i 0) ≤ length bs
-slot-room hs bs i a h l p = omega (arith, sum-more lenOf hs i h, sum-most lenOf hs (suc i), sum-slots hs)
+-- the bytes of a slot, and those of the slots behind it
+pub total-next : (hs : List ℕ) (k : ℕ) → k < length hs → total (drop k hs) ≡ lenOf (getD hs k 0) + total (drop (k + 1) hs)
+unfolding total
+total-next hs k h = rw add-one (ap total (drop-cons hs k 0 h))
+
+-- the bytes of slot k in the byte storage
+pub contents-at : (hs : List ℕ) (bs : Bytes) (k a e : ℕ) → k < length hs → total hs ≤ length bs → a + total (drop k hs) ≡ length bs → e ≡ a + lenOf (getD hs k 0)
+    → getD (contents hs bs) k [] ≡ take (e - a) (drop a bs)
+contents-at hs bs k a e h l p q =
+    let n : lenOf (getD hs k 0) ≡ e - a = omega arith in
+    let b : start hs bs + sumBy lenOf (take k hs) ≡ a = omega (arith, sum-rest hs k) in
+    split-at hs (drop (start hs bs) bs) k h ∙ ap (take (lenOf (getD hs k 0))) (drop-drop (sumBy lenOf (take k hs)) (start hs bs) bs ∙ ap (λ (i : ℕ). drop i bs) b)
+    ∙ ap (λ (i : ℕ). take i (drop a bs)) n

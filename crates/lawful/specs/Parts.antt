@@ -2,6 +2,7 @@
 -- Assumes nothing.
 use mathlib.Core.Bool.{Bool, true, _&&_, _||_, cond}
 use mathlib.Core.List.{List, []}
+use mathlib.Core.Path.{_≡_}
 use Prim.Native.Nat.{ℕ, suc, _+_, _*_, _^_, _≤_, _<_}
 use lib.Dec.{T, eqb, leb}
 use lib.ListN.{length, take, drop, getD}
@@ -61,6 +62,14 @@ linkBy kind s = cond (eqb kind 3) (targetOk s) true
 -- the bytes of every link
 abbrev pub LinksRight : List ℕ → Bytes → Type 0
 LinksRight heads bs = (k : ℕ) → k < length heads → T (linkBy (kindOf (getD heads k 0)) (getD (contents heads bs) k []))
+
+-- the first link from slot i on, and where its bytes begin; those of slot i begin at `from`
+pub record NextLink (heads : List ℕ) (i from slot at : ℕ) : Type 0 where
+  pub first : i ≤ slot
+  pub within : slot ≤ length heads
+  pub place : at + total (drop slot heads) ≡ from + total (drop i heads)
+  pub others : (k : ℕ) → i ≤ k → k < slot → kindOf (getD heads k 0) ≡ 3 → ⊥
+  pub link : slot < length heads → kindOf (getD heads slot 0) ≡ 3
 
 -- every slot
 abbrev pub SlotsHeld : List ℕ → List ℕ → List ℕ → Bytes → Type 0

@@ -1,13 +1,13 @@
 // Slots, and the bytes that stand in them.
 ghost use mathlib.Core.Path.{_≡_};
-ghost use Prim.Native.Nat.{_-_, _≤_};
-ghost use lib.ListN.{length};
+ghost use Prim.Native.Nat.{_+_, _-_, _≤_, _<_};
+ghost use lib.ListN.{length, drop};
 ghost use Rattle.model.specs.Rules.{targetOk};
 ghost use Rattle.layout.specs.Rows.{nameTotal};
 ghost use Rattle.layout.specs.Slots.{total};
 ghost use Rattle.marks.specs.Settles.{Settles};
 ghost use Rattle.marks.specs.Uses.{Within, Standing};
-ghost use Rattle.lawful.specs.Parts.{LinksRight, SlotsHeld};
+ghost use Rattle.lawful.specs.Parts.{LinksRight, NextLink, SlotsHeld};
 use path::lengths::lengths_ok;
 use text::text_ok;
 
@@ -49,24 +49,45 @@ pub fn target_ok(s: &[u8]) -> bool
     lengths_ok(s)
 }
 
+// A slot, and where its bytes begin.
+pub struct Place {
+    pub slot: usize,
+    pub at: usize,
+}
+
+// The first link from slot i on, and where its bytes begin; those of slot i begin at `from`. The loop calls nothing, so that what
+// it adds up stays in a register.
+fn next_link(heads: &[u64], i: usize, from: usize) -> Place
+    requires { ⌜ (i ≤ length (now heads)) × (from + total (drop i (now heads)) < 18446744073709551616) ⌝ }
+    ensures { λ r. ⌜ NextLink (now (heads .entry)) i from (r .slot) (r .at) ⌝ }
+{
+    let mut slot = i;
+    let mut at = from;
+    while slot < heads.len() {
+        let h = heads[slot];
+        if h / 16777216 % 256 == 3 {
+            return Place { slot, at };
+        }
+        at += (h % 16777216) as usize;
+        slot += 1;
+    }
+    Place { slot, at }
+}
+
 // Whether the bytes of every link are a target; the bytes of the slots begin at `from`.
 fn links_ok(heads: &[u64], bytes: &[u8], from: usize) -> bool
     requires { ⌜ (total (now heads) ≤ length (now bytes)) × (from ≡ length (now bytes) - total (now heads)) ⌝ }
     ensures { λ r. ⌜ Settles r (LinksRight (now (heads .entry)) (now (bytes .entry))) ⌝ }
 {
-    let mut i = 0;
-    let mut at = from;
-    while i < heads.len() {
-        let h = heads[i];
-        let a = at;
-        at = a + (h % 16777216) as usize;
-        i += 1;
-        if h / 16777216 % 256 != 3 {
-            continue;
-        }
-        if !target_ok(&bytes[a..at]) {
+    let mut p = next_link(heads, 0, from);
+    while p.slot < heads.len() {
+        let i = p.slot;
+        let a = p.at;
+        let e = a + (heads[i] % 16777216) as usize;
+        if !target_ok(&bytes[a..e]) {
             return false;
         }
+        p = next_link(heads, i + 1, e);
     }
     true
 }

@@ -8,9 +8,10 @@ ghost use Rattle.lawful.specs.Parts.{Parts};
 pub mod cells;
 pub mod held;
 mod limits;
+mod unused;
 
-// Whether slices that are as long as the limits ask obey the rules. `recs` has the records of the entries and no more.
-fn parts_ok(words: &[u64], recs: &[u64], heads: &[u64], paths: &[u8], bytes: &[u8]) -> bool
+// Whether slices obey the rules. `recs` has the records of the entries and no more.
+fn rules_ok(words: &[u64], recs: &[u64], heads: &[u64], paths: &[u8], bytes: &[u8]) -> bool
     requires { ⌜ (101 ≤ length (now words)) × (length (now recs) ≤ 4096) × (length (now heads) ≤ 4128) × (33792 ≤ length (now paths)) × (length (now bytes) ≤ 1048576) ⌝ }
     ensures { λ r. ⌜ Settles r (Parts (now (words .entry)) (now (recs .entry)) (now (heads .entry)) (now (paths .entry)) (now (bytes .entry))) ⌝ }
 {
@@ -26,6 +27,15 @@ fn parts_ok(words: &[u64], recs: &[u64], heads: &[u64], paths: &[u8], bytes: &[u
         return false;
     }
     held::slots_held(words, recs, heads, bytes, bytes.len() - rest)
+}
+
+// The same of slices that are as long as the limits ask: the slots behind the last one in use change nothing.
+fn parts_ok(words: &[u64], recs: &[u64], heads: &[u64], paths: &[u8], bytes: &[u8]) -> bool
+    requires { ⌜ (101 ≤ length (now words)) × (length (now recs) ≤ 4096) × (length (now heads) ≤ 4128) × (33792 ≤ length (now paths)) × (length (now bytes) ≤ 1048576) ⌝ }
+    ensures { λ r. ⌜ Settles r (Parts (now (words .entry)) (now (recs .entry)) (now (heads .entry)) (now (paths .entry)) (now (bytes .entry))) ⌝ }
+{
+    let used = unused::used_end(heads);
+    rules_ok(words, recs, &heads[..used], paths, bytes)
 }
 
 // Whether the slices are a store, of which each may be longer than the limits ask.

@@ -1,83 +1,20 @@
--- A slot's word and mark, kind by kind: the mark says enough of who uses the slot.
+-- A slot's word and who has the slot, kind by kind.
 -- Assumes nothing.
-use mathlib.Core.Bool.{Bool, true, false, _&&_, not, cond}
-use mathlib.Core.List.{List, []}
-use mathlib.Core.Path.{_≡_, refl, sym, ap, _∙_, subst}
-use Prim.Native.Nat.{ℕ, zero, suc, _+_, _≤_, _<_}
+use mathlib.Core.Bool.{Bool, true, false, _&&_, _||_, not, or-false}
+use mathlib.Core.List.{[]}
+use mathlib.Core.Path.{_≡_, refl, sym, subst}
+use Prim.Native.Nat.{ℕ, zero, suc, _/_, _≤_, _<_}
 use native.Mathlib.Omega.{arith}
-use lib.Dec.{T, eqb, leb}
-use lib.ListN.{length, getD}
+use lib.Dec.{T, eqb, eqb→eq}
 use borrow.Author.Tests.{eq-eqb, ne-eqb}
 use Rattle.text.specs.Utf8.{octets, text}
 use Rattle.path.specs.Path.{pieces, allShort, lengthsOk}
-use Rattle.path.proofs.Laws.{and-left, and-right}
+use Rattle.path.proofs.Laws.{and-left, and-right, and-both}
 use Rattle.model.specs.Rules.{targetOk}
-use Rattle.layout.specs.Fields.{slotOf, lenOf, kindOf}
+use Rattle.layout.specs.Fields.{lenOf, kindOf}
 use Rattle.layout.specs.Lawful.{slotBy}
 use Rattle.marks.specs.Settles.{Settles}
-use Rattle.marks.specs.Uses.{usesIn, standsFrom, Within, headBy, headOk, SlotsRight}
-
-module _ (h m : ℕ) where
-  by : (k : ℕ) → kindOf h ≡ k → headOk h m ≡ headBy k h m
-  unfolding headOk
-  by k e = ap (λ (x : ℕ). headBy x h m) e
-
-  pub by-free-word : kindOf h ≡ 0 → (h ≡ 0 → ⊥) → false ≡ headOk h m
-  by-free-word e n = sym (by 0 e ∙ ap (λ (t : Bool). t && eqb m 0) (ne-eqb h 0 n))
-
-  pub by-free : kindOf h ≡ 0 → h ≡ 0 → eqb m 0 ≡ headOk h m
-  by-free e z = sym (by 0 e ∙ ap (λ (t : Bool). t && eqb m 0) (eq-eqb h 0 z))
-
-  pub by-dir-length : kindOf h ≡ 1 → (lenOf h ≡ 0 → ⊥) → false ≡ headOk h m
-  by-dir-length e n = sym (by 1 e ∙ ap (λ (t : Bool). t && eqb m 1) (ne-eqb (lenOf h) 0 n))
-
-  pub by-dir : kindOf h ≡ 1 → lenOf h ≡ 0 → eqb m 1 ≡ headOk h m
-  by-dir e z = sym (by 1 e ∙ ap (λ (t : Bool). t && eqb m 1) (eq-eqb (lenOf h) 0 z))
-
-  pub by-file : kindOf h ≡ 2 → leb 1 m ≡ headOk h m
-  by-file e = sym (by 2 e)
-
-  pub by-link : kindOf h ≡ 3 → eqb m 1 ≡ headOk h m
-  by-link e = sym (by 3 e)
-
-  pub by-other : (kindOf h ≡ 0 → ⊥) → (kindOf h ≡ 1 → ⊥) → (kindOf h ≡ 2 → ⊥) → (kindOf h ≡ 3 → ⊥) → false ≡ headOk h m
-  unfolding headOk
-  by-other a b c d = go (kindOf h) a b c d
-    where
-      go : (k : ℕ) → (k ≡ 0 → ⊥) → (k ≡ 1 → ⊥) → (k ≡ 2 → ⊥) → (k ≡ 3 → ⊥) → false ≡ headBy k h m
-      go zero a b c d = absurd (a refl)
-      go (suc zero) a b c d = absurd (b refl)
-      go (suc (suc zero)) a b c d = absurd (c refl)
-      go (suc (suc (suc zero))) a b c d = absurd (d refl)
-      go (suc (suc (suc (suc k)))) a b c d = refl
-
--- the mark in place of the count and the test that it stands for
-pub head-slot : (h u : ℕ) (held : Bool) → u ≤ 1 → headOk h (u + cond held 2 0) ≡ slotBy (kindOf h) h u held []
-unfolding headOk targetOk text octets lengthsOk pieces allShort
-head-slot h u held l = go (kindOf h) u held l
-  where
-    go : (k u : ℕ) (held : Bool) → u ≤ 1 → headBy k h (u + cond held 2 0) ≡ slotBy k h u held []
-    go zero zero true l = refl
-    go zero zero false l = refl
-    go zero (suc zero) true l = refl
-    go zero (suc zero) false l = refl
-    go zero (suc (suc u)) held l = absurd (omega arith)
-    go (suc zero) zero true l = refl
-    go (suc zero) zero false l = refl
-    go (suc zero) (suc zero) true l = refl
-    go (suc zero) (suc zero) false l = refl
-    go (suc zero) (suc (suc u)) held l = absurd (omega arith)
-    go (suc (suc zero)) zero true l = refl
-    go (suc (suc zero)) zero false l = refl
-    go (suc (suc zero)) (suc zero) true l = refl
-    go (suc (suc zero)) (suc zero) false l = refl
-    go (suc (suc zero)) (suc (suc u)) held l = absurd (omega arith)
-    go (suc (suc (suc zero))) zero true l = refl
-    go (suc (suc (suc zero))) zero false l = refl
-    go (suc (suc (suc zero))) (suc zero) true l = refl
-    go (suc (suc (suc zero))) (suc zero) false l = refl
-    go (suc (suc (suc zero))) (suc (suc u)) held l = absurd (omega arith)
-    go (suc (suc (suc (suc k)))) u held l = refl
+use Rattle.marks.specs.Uses.{entryBy, entryWord}
 
 -- a slot that is named twice is wrong
 pub twice-wrong : (k h u : ℕ) (held : Bool) → 2 ≤ u → T (slotBy k h u held []) → ⊥
@@ -96,24 +33,81 @@ twice-wrong k h u held l t = go k t
     go (suc (suc (suc zero))) t = subst T f (and-left (eqb u 1) (not held) (and-right (targetOk []) (eqb u 1 && not held) t))
     go (suc (suc (suc (suc k)))) t = t
 
+-- the test of the word of an entry's slot
+pub entry-word : (h : ℕ) → (eqb (kindOf h) 1 && eqb (lenOf h) 0) || eqb (kindOf h / 2) 1 ≡ entryWord h
+unfolding entryWord
+entry-word h = go (kindOf h)
+  where
+    go : (k : ℕ) → (eqb k 1 && eqb (lenOf h) 0) || eqb (k / 2) 1 ≡ entryBy k h
+    go zero = refl
+    go (suc zero) = or-false (eqb (lenOf h) 0)
+    go (suc (suc zero)) = refl
+    go (suc (suc (suc zero))) = refl
+    go (suc (suc (suc (suc k)))) = rw (ne-eqb (suc (suc (suc (suc k)))) 1 (λ e. omega arith), ne-eqb (suc (suc (suc (suc k))) / 2) 1 (λ e. omega arith))
+
+-- a word that is none of an entry's slot
+pub word-wrong : (h u : ℕ) (held : Bool) → entryWord h ≡ false → 1 ≤ u → T (slotBy (kindOf h) h u held []) → ⊥
+unfolding entryWord
+word-wrong h u held e l t = go (kindOf h) e t
+  where
+    go : (k : ℕ) → entryBy k h ≡ false → T (slotBy k h u held []) → ⊥
+    go zero e t = subst T (ne-eqb u 0 (λ q. omega arith)) (and-left (eqb u 0) (not held) (and-right (eqb h 0) (eqb u 0 && not held) t))
+    go (suc zero) e t = subst T e (and-left (eqb (lenOf h) 0) (eqb u 1 && not held) t)
+    go (suc (suc zero)) e t = absurd (let z : _≡_ {A = ℕ} 0 1 = cc in omega arith)
+    go (suc (suc (suc zero))) e t = absurd (let z : _≡_ {A = ℕ} 0 1 = cc in omega arith)
+    go (suc (suc (suc (suc k)))) e t = t
+
+-- a file number stands on a file
+pub number-wrong : (h u : ℕ) → (kindOf h ≡ 2 → ⊥) → T (slotBy (kindOf h) h u true []) → ⊥
+number-wrong h u n t = go (kindOf h) n t
+  where
+    go : (k : ℕ) → (k ≡ 2 → ⊥) → T (slotBy k h u true []) → ⊥
+    go zero n t = and-right (eqb u 0) false (and-right (eqb h 0) (eqb u 0 && false) t)
+    go (suc zero) n t = and-right (eqb u 1) false (and-right (eqb (lenOf h) 0) (eqb u 1 && false) t)
+    go (suc (suc zero)) n t = n refl
+    go (suc (suc (suc zero))) n t = and-right (eqb u 1) false (and-right (targetOk []) (eqb u 1 && false) t)
+    go (suc (suc (suc (suc k)))) n t = t
+
+module _ (h u : ℕ) (held : Bool) where
+  -- a slot that nothing has is free
+  pub slot-used : T (slotBy (kindOf h) h u held []) → u ≡ 0 → held ≡ false → h ≡ 0
+  slot-used t z e = go (kindOf h) (subst (λ (n : ℕ). T (slotBy (kindOf h) h n false [])) z (subst (λ (b : Bool). T (slotBy (kindOf h) h u b [])) e t))
+    where
+      go : (k : ℕ) → T (slotBy k h 0 false []) → h ≡ 0
+      go zero t = eqb→eq h 0 (and-left (eqb h 0) true t)
+      go (suc zero) t = absurd (and-right (eqb (lenOf h) 0) false t)
+      go (suc (suc zero)) t = absurd t
+      go (suc (suc (suc zero))) t = absurd (and-right (targetOk []) false t)
+      go (suc (suc (suc (suc k)))) t = absurd t
+
+  -- a slot is right, where what has it says so
+  pub slot-right : u ≤ 1 → (0 < u → T (entryWord h)) → (T held → kindOf h ≡ 2) → (u ≡ 0 → held ≡ false → h ≡ 0) → T (slotBy (kindOf h) h u held [])
+  unfolding entryWord targetOk text octets lengthsOk pieces allShort
+  slot-right l w f z = go (kindOf h) u held refl l w f z
+    where
+      go : (k u : ℕ) (held : Bool) → kindOf h ≡ k → u ≤ 1 → (0 < u → T (entryBy k h)) → (T held → k ≡ 2) → (u ≡ 0 → held ≡ false → h ≡ 0) → T (slotBy k h u held [])
+      go zero zero false e l w f z = and-both (eqb h 0) true (subst T (sym (eq-eqb h 0 (z refl refl))) tt) tt
+      go zero zero true e l w f z = absurd (omega (arith, f tt))
+      go zero (suc zero) held e l w f z = absurd (w (omega arith))
+      go (suc zero) zero false e l w f z = absurd (omega (arith, z refl refl))
+      go (suc zero) zero true e l w f z = absurd (omega (arith, f tt))
+      go (suc zero) (suc zero) false e l w f z = and-both (eqb (lenOf h) 0) true (w (omega arith)) tt
+      go (suc zero) (suc zero) true e l w f z = absurd (omega (arith, f tt))
+      go (suc (suc zero)) zero false e l w f z = absurd (omega (arith, z refl refl))
+      go (suc (suc zero)) zero true e l w f z = tt
+      go (suc (suc zero)) (suc zero) held e l w f z = tt
+      go (suc (suc (suc zero))) zero false e l w f z = absurd (omega (arith, z refl refl))
+      go (suc (suc (suc zero))) zero true e l w f z = absurd (omega (arith, f tt))
+      go (suc (suc (suc zero))) (suc zero) false e l w f z = tt
+      go (suc (suc (suc zero))) (suc zero) true e l w f z = absurd (omega (arith, f tt))
+      go (suc (suc (suc (suc k)))) zero false e l w f z = absurd (omega (arith, z refl refl))
+      go (suc (suc (suc (suc k)))) zero true e l w f z = absurd (omega (arith, f tt))
+      go (suc (suc (suc (suc k)))) (suc zero) held e l w f z = absurd (w (omega arith))
+      go k (suc (suc u)) held e l w f z = absurd (omega arith)
+
 -- ---- all slots
 
 -- what settles one settles the other
 pub settle : (r : Bool) {P Q : Type 0} → (P → Q) → (Q → P) → Settles r P → Settles r Q
 settle true f g p = f p
 settle false f g p = λ q. p (g q)
-
-module _ (ws recs heads : List ℕ) where
-  -- a slot that is named twice is wrong
-  pub slots-twice : Within (length heads) recs → (i : ℕ) → i < length recs → 2 ≤ usesIn (slotOf (getD recs i 0)) recs → SlotsRight ws recs heads → ⊥
-  slots-twice w i h l right =
-      let k = slotOf (getD recs i 0) in
-      twice-wrong (kindOf (getD heads k 0)) (getD heads k 0) (usesIn k recs) (standsFrom ws 32 0 k) l (right k (w i h))
-
-  -- what the marks say of the slots, the slots' users say
-  pub slots-marked : (first last : List ℕ) → ((k : ℕ) → (getD first k 0 ≡ usesIn k recs) × (usesIn k recs ≤ 1)) → ((k : ℕ) → getD last k 0 ≡ getD first k 0 + cond (standsFrom ws 32 0 k) 2 0)
-      → (r : Bool) → Settles r ((k : ℕ) → k < length heads → T (headOk (getD heads k 0) (getD last k 0))) → Settles r (SlotsRight ws recs heads)
-  slots-marked first last f g r = settle r (λ a k h. subst T (same k) (a k h)) (λ a k h. subst T (sym (same k)) (a k h))
-    where
-      same : (k : ℕ) → headOk (getD heads k 0) (getD last k 0) ≡ slotBy (kindOf (getD heads k 0)) (getD heads k 0) (usesIn k recs) (standsFrom ws 32 0 k) []
-      same k = ap (λ (m : ℕ). headOk (getD heads k 0) m) (g k ∙ ap (λ (m : ℕ). m + cond (standsFrom ws 32 0 k) 2 0) (f k .0)) ∙ head-slot (getD heads k 0) (usesIn k recs) (standsFrom ws 32 0 k) (f k .1)

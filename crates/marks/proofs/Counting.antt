@@ -74,6 +74,12 @@ stands-more ws (suc n) i k =
     ap (λ (t : Bool). eqb (getD ws (5 + 3 * i) 0) (suc k) || t) (stands-more ws n (suc i) k ∙ ap (λ (x : ℕ). standsFrom ws n (suc i) k || eqb (getD ws (5 + 3 * x) 0) (suc k)) e)
     ∙ sym (or-assoc (eqb (getD ws (5 + 3 * i) 0) (suc k)) (standsFrom ws n (suc i) k) (eqb (getD ws (5 + 3 * (suc n + i)) 0) (suc k)))
 
+-- by what the number says
+pub stands-next : (ws : List ℕ) (j k : ℕ) (t : Bool) → eqb (getD ws (5 + 3 * j) 0) (suc k) ≡ t → standsFrom ws (j + 1) 0 k ≡ standsFrom ws j 0 k || t
+stands-next ws j k t e =
+    let z : j + 0 ≡ j = omega arith in
+    rw add-one (stands-more ws j 0 k ∙ ap (λ (x : ℕ). standsFrom ws j 0 k || eqb (getD ws (5 + 3 * x) 0) (suc k)) z ∙ ap (λ (b : Bool). standsFrom ws j 0 k || b) e)
+
 -- the marks with 2 more where one of the first j numbers stands
 abbrev pub Added : List ℕ → List ℕ → List ℕ → ℕ → Type 0
 Added ws marks₀ marks j = (k : ℕ) → getD marks k 0 ≡ getD marks₀ k 0 + cond (standsFrom ws j 0 k) 2 0
@@ -84,9 +90,7 @@ added-none ws marks k = omega arith
 
 module _ (ws marks₀ marks : List ℕ) (j : ℕ) (w : Added ws marks₀ marks j) where
   more : (k : ℕ) (t : Bool) → eqb (getD ws (5 + 3 * j) 0) (suc k) ≡ t → standsFrom ws (j + 1) 0 k ≡ standsFrom ws j 0 k || t
-  more k t e =
-      let z : j + 0 ≡ j = omega arith in
-      rw add-one (stands-more ws j 0 k ∙ ap (λ (x : ℕ). standsFrom ws j 0 k || eqb (getD ws (5 + 3 * x) 0) (suc k)) z ∙ ap (λ (b : Bool). standsFrom ws j 0 k || b) e)
+  more = stands-next ws j
 
   -- a closed number
   pub added-closed : getD ws (5 + 3 * j) 0 ≡ 0 → Added ws marks₀ marks (j + 1)

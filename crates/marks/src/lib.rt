@@ -1,12 +1,16 @@
-// The slots of a store against who uses them: a mark for each slot, 1 for the record that names it, and 2 more where a file
-// number stands on it.
+// The slots of a store against who uses them. Marks: for each slot 1 for the record that names it, and 2 more where a file number
+// stands on it.
 ghost use mathlib.Core.Bool.{cond};
 ghost use mathlib.Core.Path.{_≡_};
-ghost use Prim.Native.Nat.{ℕ, _+_, _≤_, _<_};
-ghost use lib.Dec.{T};
+ghost use Prim.Native.Nat.{ℕ, _+_, _≤_};
 ghost use lib.ListN.{length, getD};
 ghost use Rattle.marks.specs.Settles.{Settles};
-ghost use Rattle.marks.specs.Uses.{standsFrom, Within, Standing, MarkedBy, headOk, SlotsRight};
+ghost use Rattle.marks.specs.Uses.{standsFrom, Within, Standing, MarkedBy, SlotsRight};
+use crate::taken::in_use;
+use crate::taken::take_named;
+use crate::taken::take_open;
+
+mod taken;
 
 // Marks the slot of each record; false where one is marked already.
 pub fn mark_records(recs: &[u64], marks: &mut [u8; 4128]) -> bool
@@ -46,56 +50,19 @@ pub fn mark_numbers(words: &[u64], marks: &mut [u8; 4128])
     }
 }
 
-// Whether the word of a slot goes with its mark.
-fn head_ok(h: u64, m: u8) -> bool
-    ensures { λ r. ⌜ r ≡ headOk h m ⌝ }
-{
-    let kind = h / 16777216 % 256;
-    if kind == 0 {
-        if h != 0 {
-            return false;
-        }
-        return m == 0;
-    }
-    if kind == 1 {
-        if h % 16777216 != 0 {
-            return false;
-        }
-        return m == 1;
-    }
-    if kind == 2 {
-        return 1 <= m;
-    }
-    if kind == 3 {
-        return m == 1;
-    }
-    false
-}
-
-// Whether every slot goes with its mark.
-fn heads_ok(heads: &[u64], marks: &[u8; 4128]) -> bool
-    requires { ⌜ length (now heads) ≤ 4128 ⌝ }
-    ensures { λ r. ⌜ Settles r ((k : ℕ) → k < length (now (heads .entry)) → T (headOk (getD (now (heads .entry)) k 0) (getD (now (marks .entry)) k 0))) ⌝ }
-{
-    let mut i = 0;
-    while i < heads.len() {
-        if !head_ok(heads[i], marks[i]) {
-            return false;
-        }
-        i += 1;
-    }
-    true
-}
-
-// Whether every slot is right but for the bytes of links.
+// Whether every slot is right but for the bytes of links. What has a slot says what its word may be; then as many words are not 0 as
+// slots are taken, and all others are 0.
 pub fn slots_ok(words: &[u64], recs: &[u64], heads: &[u64]) -> bool
     requires { ⌜ (101 ≤ length (now words)) × (length (now heads) ≤ 4128) × Within (length (now heads)) (now recs) × Standing (now words) ⌝ }
     ensures { λ r. ⌜ Settles r (SlotsRight (now (words .entry)) (now (recs .entry)) (now (heads .entry))) ⌝ }
 {
-    let mut marks = [0u8; 4128];
-    if !mark_records(recs, &mut marks) {
+    let mut taken = [0u8; 4128];
+    if !take_named(recs, heads, &mut taken) {
         return false;
     }
-    mark_numbers(words, &mut marks);
-    heads_ok(heads, &marks)
+    let open = take_open(words, heads, &mut taken);
+    if !open.files {
+        return false;
+    }
+    in_use(heads) == recs.len() + open.more
 }

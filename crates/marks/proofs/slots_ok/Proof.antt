@@ -1,40 +1,56 @@
--- `slots_ok` meets its contract: the marks say who uses each slot.
+-- `slots_ok` meets its contract: the slots that records name are taken, then those that numbers stand on, and the words that are
+-- not 0 are as many.
 -- Assumes nothing.
-use mathlib.Core.Path.{subst}
-use Prim.Native.Nat.{ℕ}
+use mathlib.Core.Path.{subst, ap}
+use Prim.Native.Nat.{ℕ, _+_}
 use native.Mathlib.Omega.{arith}
-use lib.ListN.{length-replicate}
+use lib.Dec.{eqb}
+use lib.ListN.{length, length-replicate}
 use borrow.Author.Needs.{needs}
 use borrow.Author.Tests.{not-true, not-false}
-use Rattle.marks.specs.Uses.{MarkedBy}
+use Rattle.marks.specs.Uses.{NamedBy, OpenedBy}
 use Rattle.marks.proofs.Counting.{all-zero}
-use Rattle.marks.proofs.ByKind.{slots-twice, slots-marked}
-use borrow.Author.Needs.{needs}
+use Rattle.marks.proofs.Filled.{filled-none}
+use Rattle.marks.proofs.Taking.{slots-counted}
 use Rattle.marks.proofs.slots_ok.Statement.{statement}
 use Rattle.marks.proofs.slots_ok.Tie as tie
 
-mark-records-requires : tie.Need-mark-records-requires
-mark-records-requires c κs = ((λ i h. omega (arith, c .before .before .before .before .pre .2 i h)), length-replicate {A = ℕ} 4128 0, all-zero 4128)
+take-named-requires : tie.Need-take-named-requires
+take-named-requires c κs = let s = c .before .before .before .before in (s .pre .1, s .pre .2, length-replicate {A = ℕ} 4128 0, all-zero 4128, filled-none 4128)
 
 returns : tie.Need-returns
-returns c = let s = c .before .before .before .before .before .before in let m = c .before .mark-records in
-    let t = subst (MarkedBy (s .args .recs .now) (m .last .1 .0)) (not-true (m .result) (c .if1 .taken)) (m .ensures .0) in
-    slots-twice (s .args .words .now) (s .args .recs .now) (s .args .heads .now) (s .pre .2) (t .0) (t .1) (t .2)
+returns c = let a = c .before .before .before .before .before .before .args in let m = c .before .take-named in
+    subst (NamedBy (a .recs .now) (a .heads .now) (m .last .1 .1 .0)) (not-true (m .result) (c .if1 .taken)) (m .ensures .0) (a .words .now)
 
-mark-numbers-requires : tie.Need-mark-numbers-requires
-mark-numbers-requires c κs = let s = c .before .before .before .before .before .before .before in let m = c .before .before .mark-records in
-    let t = subst (MarkedBy (s .args .recs .now) (m .last .1 .0)) (not-false (m .result) (c .before .if1 .left)) (m .ensures .0) in
-    (s .pre .0, s .pre .3, m .ensures .1, λ k. omega (arith, t k .0, t k .1))
-
-heads-ok-requires : tie.Need-heads-ok-requires
-heads-ok-requires c κs = search needs
+take-open-requires : tie.Need-take-open-requires
+take-open-requires c κs = let s = c .before .before .before .before .before .before .before in let a = s .args in let m = c .before .before .take-named in
+    let t = subst (NamedBy (a .recs .now) (a .heads .now) (m .last .1 .1 .0)) (not-false (m .result) (c .before .if1 .left)) (m .ensures .0) in
+    (s .pre .0, s .pre .1, m .ensures .1, λ k. omega (arith, t .0 k .taken, t .0 k .once))
 
 returns-2 : tie.Need-returns-2
-returns-2 c = let s = c .before .before .before .before .before .before .before .before .before .before in let m = c .before .before .before .before .before .mark-records in
-    let t = subst (MarkedBy (s .args .recs .now) (m .last .1 .0)) (not-false (m .result) (c .before .before .before .before .if1 .left)) (m .ensures .0) in
-    slots-marked (s .args .words .now) (s .args .recs .now) (s .args .heads .now) (m .last .1 .0) (c .before .before .mark-numbers .last .1 .0) t (c .before .before .mark-numbers .ensures .0) (c .heads-ok .result) (c .heads-ok .ensures)
+returns-2 c = let a = c .before .before .before .before .before .before .before .before .before .before .args in let m = c .before .before .before .before .before .take-named in let o = c .before .before .take-open in
+    subst (OpenedBy (a .words .now) (a .heads .now) (m .last .1 .1 .0) (o .last .1 .1 .0) 32 (o .result .more)) (not-true (o .result .files) (c .if2 .taken)) (o .ensures .0) (a .recs .now)
+
+in-use-requires : tie.Need-in-use-requires
+in-use-requires c κs = search needs
+
+add-result : tie.Need-add-result
+add-result c = search needs
+
+returns-3 : tie.Need-returns-3
+returns-3 c = let s = c .before .before .before .before .before .before .before .before .before .before .before .before in let a = s .args in let m = c .before .before .before .before .before .before .before .take-named in let o = c .before .before .before .before .take-open in
+    let t = subst (NamedBy (a .recs .now) (a .heads .now) (m .last .1 .1 .0)) (not-false (m .result) (c .before .before .before .before .before .before .if1 .left)) (m .ensures .0) in
+    let u = subst (OpenedBy (a .words .now) (a .heads .now) (m .last .1 .1 .0) (o .last .1 .1 .0) 32 (o .result .more)) (not-false (o .result .files) (c .before .before .if2 .left)) (o .ensures .0) in
+    slots-counted (a .words .now) (a .recs .now) (a .heads .now) (m .last .1 .1 .0) (o .last .1 .1 .0) (o .result .more) (s .pre .2) t u (eqb (c .before .in-use .result) (length (a .recs .now) + o .result .more)) (ap (λ (x : ℕ). eqb x (length (a .recs .now) + o .result .more)) (c .before .in-use .ensures))
 
 pub slots-ok-spec : {M : Type 1} → statement M
 slots-ok-spec =
     tie.close
-    (tie.spec mark-records-requires returns mark-numbers-requires heads-ok-requires returns-2)
+    (tie.spec
+    take-named-requires
+    returns
+    take-open-requires
+    returns-2
+    in-use-requires
+    add-result
+    returns-3)

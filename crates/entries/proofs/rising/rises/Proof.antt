@@ -1,34 +1,13 @@
--- `rises` meets its contract: what follows the bytes that are passed decides.
+-- `rises` meets its contract.
 -- Assumes nothing.
 use mathlib.Core.Path.{_≡_, sym, _∙_}
 use Prim.Native.Nat.{ℕ}
 use native.Mathlib.Omega.{arith}
 use borrow.Author.Needs.{needs}
 use Rattle.order.specs.declared.Order.the-variants.{Same, More}
-use Rattle.entries.proofs.Alike.{order-less, order-other}
+use Rattle.entries.proofs.Ordered.{order-less, order-other}
 use Rattle.entries.proofs.rising.rises.Statement.{statement}
 use Rattle.entries.proofs.rising.rises.Tie as tie
-
-alike-requires : tie.Need-alike-requires
-alike-requires c κs = search needs
-
-sub-compare : tie.Need-sub-compare
-sub-compare c = omega (arith, c .alike .ensures .left)
-
-part-compare-start : tie.Need-part-compare-start
-part-compare-start c = omega (arith, c .alike .ensures .left)
-
-part-compare-end : tie.Need-part-compare-end
-part-compare-end c = omega (arith, c .alike .ensures .left)
-
-sub-compare-2 : tie.Need-sub-compare-2
-sub-compare-2 c = omega (arith, c .before .alike .ensures .right)
-
-part-compare-start-2 : tie.Need-part-compare-start-2
-part-compare-start-2 c = omega (arith, c .before .alike .ensures .right)
-
-part-compare-end-2 : tie.Need-part-compare-end-2
-part-compare-end-2 c = omega (arith, c .before .alike .ensures .right)
 
 compare-requires : tie.Need-compare-requires
 compare-requires c κs = search needs
@@ -43,29 +22,15 @@ enum-told-3 : tie.Need-enum-told-3
 enum-told-3 c = search needs
 
 returns : tie.Need-returns
-returns c = let a = c .before .before .before .before .before .before .before .before .args in order-less (a .a .now) (a .b .now) (c .before .before .before .before .before .alike .result) (c .before .before .before .before .before .alike .ensures) (sym (c .before .before .compare .ensures) ∙ c .enum-told .given .1)
+returns c = let a = c .before .before .before .before .before .args in order-less (a .a .now) (a .b .now) (sym (c .before .before .compare .ensures) ∙ c .enum-told .given .1)
 
 returns-2 : tie.Need-returns-2
-returns-2 c = let a = c .before .before .before .before .before .before .before .before .args in order-other (a .a .now) (a .b .now) (c .before .before .before .before .before .alike .result) (c .before .before .before .before .before .alike .ensures) Same (sym (c .before .before .compare .ensures) ∙ c .enum-told2 .given .1) (λ e. let z : _≡_ {A = ℕ} 0 1 = cc in omega arith)
+returns-2 c = let a = c .before .before .before .before .before .args in order-other (a .a .now) (a .b .now) Same (sym (c .before .before .compare .ensures) ∙ c .enum-told2 .given .1) (λ e. let z : _≡_ {A = ℕ} 0 1 = cc in omega arith)
 
 returns-3 : tie.Need-returns-3
-returns-3 c = let a = c .before .before .before .before .before .before .before .before .args in order-other (a .a .now) (a .b .now) (c .before .before .before .before .before .alike .result) (c .before .before .before .before .before .alike .ensures) More (sym (c .before .before .compare .ensures) ∙ c .enum-told3 .given .1) (λ e. let z : _≡_ {A = ℕ} 0 1 = cc in omega arith)
+returns-3 c = let a = c .before .before .before .before .before .args in order-other (a .a .now) (a .b .now) More (sym (c .before .before .compare .ensures) ∙ c .enum-told3 .given .1) (λ e. let z : _≡_ {A = ℕ} 0 1 = cc in omega arith)
 
 pub rises-spec : {M : Type 1} → statement M
 rises-spec =
     tie.close
-    (tie.spec
-    alike-requires
-    sub-compare
-    part-compare-start
-    part-compare-end
-    sub-compare-2
-    part-compare-start-2
-    part-compare-end-2
-    compare-requires
-    enum-told
-    enum-told-2
-    enum-told-3
-    returns
-    returns-2
-    returns-3)
+    (tie.spec compare-requires enum-told enum-told-2 enum-told-3 returns returns-2 returns-3)

@@ -1,0 +1,93 @@
+// Slots that are taken: a 1 for each that a record names or a file number stands on.
+ghost use mathlib.Core.Bool.{cond};
+ghost use mathlib.Core.Path.{_≡_};
+ghost use Prim.Native.Nat.{ℕ, _≤_};
+ghost use lib.Dec.{eqb};
+ghost use lib.ListN.{length, getD};
+ghost use Rattle.marks.specs.Uses.{Within, filled, entryWord, NamedBy, OpenedBy};
+
+// Whether the word can be that of an entry's slot: a directory's, which has no bytes, a file's or a link's.
+fn entry_word(h: u64) -> bool
+    ensures { λ r. ⌜ r ≡ entryWord h ⌝ }
+{
+    let kind = h / 16777216 % 256;
+    ((kind == 1) & (h % 16777216 == 0)) | (kind / 2 == 1)
+}
+
+// Takes the slot of each record; false where one is taken already, or its word is none of an entry's.
+pub fn take_named(recs: &[u64], heads: &[u64], taken: &mut [u8; 4128]) -> bool
+    requires { ⌜ (length (now heads) ≤ 4128) × Within (length (now heads)) (now recs) × (length (now taken) ≡ 4128) × ((k : ℕ) → getD (now taken) k 0 ≡ 0) × (filled (now taken) ≡ 0) ⌝ }
+    ensures { λ r. ⌜ NamedBy (now (recs .entry)) (now (heads .entry)) (now (taken .exit)) r × (length (now (taken .exit)) ≡ 4128) ⌝ }
+{
+    let mut i = 0;
+    while i < recs.len() {
+        let s = (recs[i] / 16777216) as usize;
+        if taken[s] != 0 {
+            return false;
+        }
+        if !entry_word(heads[s]) {
+            return false;
+        }
+        taken[s] = 1;
+        i += 1;
+    }
+    true
+}
+
+pub struct Open {
+    pub files: bool,
+    pub more: usize,
+}
+
+// Takes each slot that a file number stands on. `files`: each is a file's. `more`: how many were not taken before.
+pub fn take_open(words: &[u64], heads: &[u64], taken: &mut [u8; 4128]) -> Open
+    requires { ⌜ (101 ≤ length (now words)) × (length (now heads) ≤ 4128) × (length (now taken) ≡ 4128) × ((k : ℕ) → getD (now taken) k 0 ≤ 1) ⌝ }
+    ensures { λ r. ⌜ OpenedBy (now (words .entry)) (now (heads .entry)) (now (taken .entry)) (now (taken .exit)) 32 (r .more) (r .files) × (length (now (taken .exit)) ≡ 4128) × (r .more ≤ 32) ⌝ }
+{
+    let mut more = 0;
+    let mut j: usize = 0;
+    while j < 32 {
+        let h = words[5 + 3 * j] as usize;
+        j += 1;
+        if h == 0 {
+            continue;
+        }
+        // none of these slots
+        if heads.len() < h {
+            continue;
+        }
+        let k = h - 1;
+        if heads[k] / 16777216 % 256 != 2 {
+            return Open { files: false, more };
+        }
+        if taken[k] != 0 {
+            continue;
+        }
+        taken[k] = 1;
+        more += 1;
+    }
+    Open { files: true, more }
+}
+
+// 1 for a word that is not 0.
+fn one(w: u64) -> usize
+    ensures { λ r. ⌜ r ≡ cond (eqb w 0) 0 1 ⌝ }
+{
+    if w == 0 {
+        return 0;
+    }
+    1
+}
+
+// How many words are not 0.
+pub fn in_use(heads: &[u64]) -> usize
+    ensures { λ r. ⌜ r ≡ filled (now (heads .entry)) ⌝ }
+{
+    let mut n: usize = 0;
+    let mut i = 0;
+    while i < heads.len() {
+        n += one(heads[i]);
+        i += 1;
+    }
+    n
+}
