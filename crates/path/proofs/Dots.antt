@@ -3,7 +3,7 @@
 use mathlib.Core.Bool.{Bool, true, false, _&&_}
 use mathlib.Core.List.{[], _∷_}
 use mathlib.Core.Path.{_≡_, refl}
-use Prim.Native.Nat.{_≤_, _<_, zero-le}
+use Prim.Native.Nat.{ℕ, _≤_, _<_, zero-le}
 use native.Mathlib.Omega.{arith}
 use lib.Dec.{eqb}
 use lib.ListN.{length, getD}
@@ -65,7 +65,7 @@ kind-struck strike n l h k e = rw e (kind-up true n l h k)
 pub kind-named : (strike : Bool) (n : Name) → length n ≡ 2 → getD n 0 0 ≡ 46 → getD n 1 0 ≡ 46 → strike ≡ false → kindOf strike n ≡ 2
 kind-named strike n l h k e = rw e (kind-up false n l h k)
 
-pub kind-small : (strike : Bool) (n : Name) → kindOf strike n ≤ 2
+kind-small : (strike : Bool) (n : Name) → kindOf strike n ≤ 2
 unfolding kindOf
 kind-small strike n = go strike (vanishes n) (isUp n)
   where
@@ -74,6 +74,10 @@ kind-small strike n = go strike (vanishes n) (isUp n)
     go true false true = omega arith
     go false false true = omega arith
     go s false false = omega arith
+
+-- a piece that neither vanishes nor is a `..` that drops a name is a name
+pub named : (k : ℕ) (strike : Bool) (n : Name) → k ≡ kindOf strike n → (k ≡ 0 → ⊥) → (k ≡ 1 → ⊥) → kindOf strike n ≡ 2
+named k strike n e z o = omega (arith, kind-small strike n)
 
 pub up-length : (strike : Bool) (n : Name) → kindOf strike n ≡ 1 → length n ≡ 2
 unfolding kindOf vanishes isUp same

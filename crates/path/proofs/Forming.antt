@@ -17,8 +17,7 @@ use Rattle.path.specs.Answer.{formed, written, Forms}
 use Rattle.path.specs.declared.answer.Formed.{Formed}
 use Rattle.path.specs.declared.answer.Formed.the-variants.{Text, TooLong}
 use Rattle.path.proofs.Dropping.{dropN-nil}
-use Rattle.path.proofs.Following.{sifted-empty, empty-stored}
-use Rattle.path.proofs.Reading.{norm-sifted, raw-sifted, body-append, body-none}
+use Rattle.path.proofs.Reading.{norm-sifted, raw-sifted, body-append}
 
 -- ---- the two answers
 
@@ -106,12 +105,6 @@ forms-one t out after n e h w = forms-text t out after n (omega arith) e (stored
 
 pub forms-front : (t out after : Bytes) (n : ℕ) → n ≡ length t → n ≤ 1024 → after ≡ t ++ drop n out → Forms t out after (Text n)
 forms-front t out after n e h w = forms-text t out after n (omega arith) e (w ∙ ap (λ (k : ℕ). t ++ drop k out) e)
-
--- no text
-pub forms-none : (strike : Bool) (path out : Bytes) → length path ≡ 0 → Forms (body (sifted strike 0 path .kept)) out out (Text 0)
-forms-none strike path out l =
-    let e = ap (λ (z : Sifted). length (body (z .kept))) (sifted-empty strike 0 path l) in
-    forms-one (body (sifted strike 0 path .kept)) out out 0 (body-none ∙ sym e) (omega arith) (empty-stored strike 0 path out 0 l)
 
 -- ---- a link's target in place of the link
 

@@ -2,6 +2,7 @@ pub mod Cutting
 pub mod Dots
 pub mod Dropping
 pub mod Every
+pub mod Filling
 pub mod Following
 pub mod Forming
 pub mod Keeping

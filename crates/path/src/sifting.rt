@@ -3,8 +3,8 @@ ghost use mathlib.Core.Path.{_≡_};
 ghost use mathlib.Core.List.{_++_};
 ghost use Prim.Native.Nat.{_+_, _-_, _≤_, _<_};
 ghost use lib.ListN.{length, take, drop};
-ghost use Rattle.path.specs.Answer.{KeptIs, LastIs, BackIs, PlainIs};
-ghost use Rattle.path.specs.Backward.{sifted, dropN};
+ghost use Rattle.path.specs.Answer.{KeptIs, LastIs, BackIs, PieceIs, PlainIs};
+ghost use Rattle.path.specs.Backward.{sifted, part, dropN};
 ghost use Rattle.path.specs.Path.{body, names};
 use crate::answer::Kept;
 use crate::answer::Last;
@@ -93,6 +93,56 @@ pub fn put_back(out: &mut [u8], end: usize, s: &[u8], strike: bool, behind: usiz
             }
         }
     }
+}
+
+// The piece that ends at e, stored in front of `at`; where it begins. It is read and stored in one loop, before it is known
+// whether it is kept.
+fn put_last(room: &mut [u8], at: usize, s: &[u8], e: usize) -> usize
+    requires { ⌜ (e ≤ length (now s)) × (e ≤ at) × (at ≤ length (now room)) ⌝ }
+    ensures { λ r. ⌜ PieceIs (now (s .entry)) r e × (drop (at - e + r) (now (room .exit)) ≡ part r e (now (s .entry)) ++ drop at (now (room .entry))) ⌝ }
+{
+    let gap = at - e;
+    let mut a = e;
+    while a > 0 {
+        let b = s[a - 1];
+        if b == 47 {
+            return a;
+        }
+        a -= 1;
+        room[gap + a] = b;
+    }
+    0
+}
+
+// What the text keeps, stored at the end of a room that is longer than the text; where it begins. What stands in front of it
+// is of no use.
+pub fn fill(room: &mut [u8], s: &[u8], strike: bool) -> usize
+    requires { ⌜ length (now s) < length (now room) ⌝ }
+    ensures { λ r. ⌜ (r ≤ length (now (room .exit))) × (drop r (now (room .exit)) ≡ body (sifted strike 0 (now (s .entry)) .kept)) ⌝ }
+{
+    let mut rest = s.len() + 1;
+    let mut skip: usize = 0;
+    let mut at = room.len();
+    while rest > 0 {
+        let e = rest - 1;
+        let a = put_last(room, at, s, e);
+        rest = a;
+        let k = kind_of(&s[a..e], strike);
+        if k == 0 {
+            continue;
+        }
+        if k == 1 {
+            skip += 1;
+            continue;
+        }
+        if skip > 0 {
+            skip -= 1;
+            continue;
+        }
+        at -= e - a + 1;
+        room[at] = 47;
+    }
+    at
 }
 
 // The same as `measure_back`, at once where there is no text or it is plain.

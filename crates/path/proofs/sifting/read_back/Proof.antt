@@ -1,11 +1,10 @@
 -- `sifting::read_back` meets its contract: each way out is one law on the last piece.
-use mathlib.Core.Bool.{Bool}
-use mathlib.Core.Path.{_≡_, _∙_, sym}
-use Prim.Native.Nat.{ℕ, _-_}
+use mathlib.Core.Path.{_∙_, sym}
+use Prim.Native.Nat.{_-_}
 use native.Mathlib.Omega.{arith}
-use Rattle.path.specs.Backward.{kindOf, part}
+use Rattle.path.specs.Backward.{part}
 use Rattle.path.proofs.Cutting.{part-length}
-use Rattle.path.proofs.Dots.{kind-small, up-length}
+use Rattle.path.proofs.Dots.{named, up-length}
 use Rattle.path.proofs.Reading.{back-gone, back-up, back-dropped, back-kept}
 use borrow.Author.Needs.{needs}
 use Rattle.path.proofs.sifting.read_back.Statement.{statement}
@@ -28,10 +27,6 @@ part-kind-of-end c = search needs
 
 kind-of-requires : tie.Need-kind-of-requires
 kind-of-requires c κs = search needs
-
--- a piece that neither vanishes nor is a `..` is a name
-named : (k : ℕ) (strike : Bool) (n : _) → k ≡ kindOf strike n → (k ≡ 0 → ⊥) → (k ≡ 1 → ⊥) → kindOf strike n ≡ 2
-named k strike n e z o = omega (arith, kind-small strike n)
 
 returns : tie.Need-returns
 returns c = let f = c .before .before .before .before .before in let p = c .before .before .before .piece-start in
