@@ -70,7 +70,8 @@ pub record Opened (held : Bool) (h t₀ t : ℕ) : Type 0 where
   pub taken : t ≡ cond held 1 t₀
   pub file : T held → kindOf h ≡ 2
 
--- true: the slots are taken too that one of the first j numbers stands on, n more than before; false: some slot is wrong, whoever names it
+-- true: the slots are taken too that one of the first j numbers stands on, n more than before; false: some slot is wrong, whoever
+-- names it
 abbrev pub OpenedBy : List ℕ → List ℕ → List ℕ → List ℕ → ℕ → ℕ → Bool → Type 0
 OpenedBy ws heads taken₀ taken j n true =
     ((k : ℕ) → k < length heads → Opened (standsFrom ws j 0 k) (getD heads k 0) (getD taken₀ k 0) (getD taken k 0)) × ((k : ℕ) → length heads ≤ k → getD taken k 0 ≡ getD taken₀ k 0) × (filled taken ≡ filled taken₀ + n)

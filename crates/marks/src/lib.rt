@@ -50,8 +50,8 @@ pub fn mark_numbers(words: &[u64], marks: &mut [u8; 4128])
     }
 }
 
-// Whether every slot is right but for the bytes of links. What has a slot says what its word may be; then as many words are not 0 as
-// slots are taken, and all others are 0.
+// Whether every slot is right but for the bytes of links. What has a slot says what its word may be. Where then as many words are
+// not 0 as slots are taken, the words of all others are 0.
 pub fn slots_ok(words: &[u64], recs: &[u64], heads: &[u64]) -> bool
     requires { ⌜ (101 ≤ length (now words)) × (length (now heads) ≤ 4128) × Within (length (now heads)) (now recs) × Standing (now words) ⌝ }
     ensures { λ r. ⌜ Settles r (SlotsRight (now (words .entry)) (now (recs .entry)) (now (heads .entry))) ⌝ }

@@ -35,7 +35,7 @@ in-use-requires : tie.Need-in-use-requires
 in-use-requires c κs = search needs
 
 add-result : tie.Need-add-result
-add-result c = search needs
+add-result c = omega arith
 
 returns-3 : tie.Need-returns-3
 returns-3 c = let s = c .before .before .before .before .before .before .before .before .before .before .before .before in let a = s .args in let m = c .before .before .before .before .before .before .before .take-named in let o = c .before .before .before .before .take-open in

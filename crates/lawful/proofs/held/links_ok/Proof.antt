@@ -1,5 +1,5 @@
--- `links_ok` meets its contract. The loop's invariant: p is a link and where its bytes begin, or the end, and the links before it have
--- targets.
+-- `links_ok` meets its contract. The loop's invariant: p is a link and where its bytes begin, or the end, and the links before it
+-- have targets.
 -- Assumes nothing.
 use mathlib.Core.Path.{_≡_, refl, sym, _∙_, subst}
 use Prim.Native.Nat.{_+_, _-_, _≤_, _<_}
