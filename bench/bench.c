@@ -52,7 +52,7 @@ static uint64_t rust_follow(uint8_t *o, size_t r, const uint8_t *d, size_t k, co
 }
 #endif
 
-enum { RUNS = 25, ROOM = 1024, LINK_NAME = 9 };
+enum { RUNS = 200, ROOM = 1024, LINK_NAME = 9 };
 
 typedef struct {
     uint8_t at[2048];

@@ -13,7 +13,7 @@ size_t timed_insert(STORE, size_t, const uint8_t *, size_t, const uint8_t *, siz
 size_t timed_remove(STORE, size_t, size_t);
 size_t timed_contents(STORE, size_t, const uint8_t *, size_t, const uint8_t *, size_t, size_t);
 
-enum { RUNS = 25, MOST = 4096, SPARE = 32, NAME = 10, CELLS = 33792, ROOM = 1048576, EDITS = 64, KIB = 1024 };
+enum { RUNS = 200, MOST = 4096, SPARE = 32, NAME = 10, CELLS = 33792, ROOM = 1048576, EDITS = 64, KIB = 1024 };
 enum { DIRECTORY = 1, FILE_KIND = 2 };
 
 struct store {

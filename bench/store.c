@@ -8,7 +8,7 @@
 uint32_t probe_store(const uint64_t *, size_t, const uint64_t *, size_t, const uint64_t *, size_t, const int64_t *,
                      size_t, const uint8_t *, size_t, const uint8_t *, size_t);
 
-enum { RUNS = 25, MOST = 4096, SPARE = 32, NAME = 10, CELLS = 33792, ROOM = 1048576 };
+enum { RUNS = 200, MOST = 4096, SPARE = 32, NAME = 10, CELLS = 33792, ROOM = 1048576 };
 enum { DIRECTORY = 1, FILE_KIND = 2, LINK = 3 };
 
 static uint64_t words[101], records[MOST], heads[MOST + SPARE];
