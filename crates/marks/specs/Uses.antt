@@ -51,6 +51,7 @@ entryBy (suc (suc zero)) h = true
 entryBy (suc (suc (suc zero))) h = true
 entryBy (suc (suc (suc (suc k)))) h = false
 
+-- the word of a slot can be that of an entry's
 unfoldable pub entryWord : ℕ → Bool
 entryWord h = entryBy (kindOf h) h
 
