@@ -1,6 +1,6 @@
 /* How long edits of a store take (`edits`, `removes` and `changes`, by way of the static library `timed`), on stores
    that are written here as docs/LAYOUT.md says. Each call makes an edit many times and tests the store once; the time
-   of that test, and of finding the place for an insertion, is taken apart. Each line is the best of several runs. */
+   of that test is left out. Each line is the best of several runs. */
 #include <stdint.h>
 #include <stdio.h>
 #include <string.h>
@@ -130,10 +130,10 @@ static void line(const char *name, size_t (*edit)(size_t), double goal) {
     say(name, each(edit, EDITS, edit, 0), goal);
 }
 
-/* The place and the room found, and the insertion apart from that. */
-static void insertion(const char *found, const char *made_at) {
-    say(found, each(place, EDITS, place, 0), 0);
-    say(made_at, each(insert, EDITS, place, EDITS), 15);
+/* An insertion whole, and what of it is finding the place and the room. */
+static void insertion(const char *name) {
+    say(name, each(insert, EDITS, insert, 0), 15);
+    say("of it, finding the place and the room", each(place, EDITS, place, 0), 0);
 }
 
 /* Files of 8 bytes: 64 entries are made in 4,032, so that the tree is full, or taken out of 4,096. */
@@ -141,11 +141,11 @@ static void full_tree(void) {
     bytes_each = 8;
     files(MOST - EDITS, 8, 8, 8);
     new_names(0);
-    insertion("find a place before all others, and the room", "insert there");
+    insertion("insert an entry before all others");
     new_names(20000);
-    insertion("find a place in the middle, and the room", "insert there");
+    insertion("insert an entry in the middle");
     new_names(90000);
-    insertion("find a place behind all others, and the room", "insert there");
+    insertion("insert an entry behind all others");
     files(MOST, 8, 8, 8);
     at = 1;
     line("remove the first entry of the root", take_out, 15);

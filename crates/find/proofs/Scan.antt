@@ -1,27 +1,25 @@
 -- The scan for a name, record by record: a record that is not deeper than the directory ends it, a deeper one than an entry is
 -- passed, and an entry is compared.
 -- Assumes nothing.
-use mathlib.Core.Path.{_≡_, sym}
+use mathlib.Core.Bool.{Bool, true, false, not, _||_}
+use mathlib.Core.Path.{_≡_, refl, sym}
 use mathlib.Core.List.{List}
-use Prim.Native.Nat.{ℕ, suc, _+_, _≤_, _<_}
+use Prim.Native.Nat.{ℕ, suc, _+_, _-_, _≤_, _<_}
 use native.Mathlib.Omega.{arith}
+use lib.Dec.{eqb}
 use lib.ListN.{length, take, drop, getD}
 use lib.Seq.{drop-drop, take-take}
-use borrow.Author.Tests.{le-leb, lt-leb, eq-eqb, ne-eqb}
+use borrow.Author.Tests.{le-leb, lt-leb, eq-eqb, ne-eqb, eqb-true, eqb-false, not-false}
 use Rattle.text.specs.Utf8.{Bytes}
 use Rattle.layout.specs.Fields.{depthOf, nlenOf}
 use Rattle.layout.specs.Rows.{rows, nameTotal}
 use Rattle.layout.proofs.Named.{total-split, rows-drop}
-use Rattle.order.specs.Order.{orderOf}
+use Rattle.order.specs.Order.{orderOf, number}
 use Rattle.order.specs.declared.Order.the-variants.{Less, Same, More}
-use Rattle.find.specs.Finds.{findIn}
-use Rattle.find.specs.declared.Place.{Place}
+use Rattle.order.proofs.Keys.{key-less}
+use Rattle.find.specs.Finds.{findIn, scan}
 use Rattle.find.specs.declared.Place.the-variants.{Found, Missing}
 use Rattle.find.proofs.Reading.{from, from-at, from-end, names-at, name-length}
-
--- the scan, from record j and offset o on
-abbrev pub scan : List ℕ → Bytes → ℕ → ℕ → Bytes → ℕ → ℕ → Place
-scan ws bs n d x j o = findIn d x (rows (from ws n j) (drop o bs)) j o
 
 -- what the scan starts with
 pub record Start (ws : List ℕ) (bs : Bytes) (n d : ℕ) (x : Bytes) (j o : ℕ) : Type 0 where
@@ -61,6 +59,19 @@ module _ (ws : List ℕ) (bs : Bytes) (n d : ℕ) (x : Bytes) (j o : ℕ) (h : n
         → scan ws bs n d x j o ≡ scan ws bs n d x (suc j) (o + nlenOf (getD ws j 0))
     unfolding findIn rows
     scan-less k m = rw (from-at ws n j h l, lt-leb (depthOf (getD ws j 0)) d (omega arith), eq-eqb (depthOf (getD ws j 0)) (suc d) k, m, name-at, drop-drop)
+
+    -- a record is passed that is deeper than an entry, or whose first eight bytes are less
+    pub scan-passed : ((m : ℕ) → getD bs m 0 < 256) → ((m : ℕ) → getD x m 0 < 256) → (k : ℕ) → number 8 0 x ≡ k → d < depthOf (getD ws j 0)
+        → (b : Bool) → (b ≡ true → number 8 o bs < k) → not (not (eqb (depthOf (getD ws j 0) - d) 1) || b) ≡ false
+        → scan ws bs n d x j o ≡ scan ws bs n d x (suc j) (o + nlenOf (getD ws j 0))
+    scan-passed f g k e i b s q = go (eqb (depthOf (getD ws j 0) - d) 1) refl q
+      where
+        go : (v : Bool) → eqb (depthOf (getD ws j 0) - d) 1 ≡ v → not (not v || b) ≡ false → scan ws bs n d x j o ≡ scan ws bs n d x (suc j) (o + nlenOf (getD ws j 0))
+        go true y z =
+            scan-less
+            (omega (arith, i, eqb-true (depthOf (getD ws j 0) - d) 1 y))
+            (key-less bs x o (nlenOf (getD ws j 0)) f g (omega (arith, scan-room ws bs n j o h l r)) (omega (arith, e, s (not-false b z))))
+        go false y z = scan-deeper i (λ u. eqb-false (depthOf (getD ws j 0) - d) 1 y (omega (arith, u)))
 
   pub scan-same : depthOf (getD ws j 0) ≡ suc d → orderOf (take (nlenOf (getD ws j 0)) (drop o bs)) x ≡ Same → scan ws bs n d x j o ≡ Found j o
   unfolding findIn rows

@@ -117,16 +117,22 @@ module _ (ws : List ℕ) (n : ℕ) (h : n ≤ length ws) where
     unfolding below
     below-out d j l k = rw (from-at ws n j h l, le-leb (depthOf (getD ws j 0)) d k)
 
+    -- an entry, and then what is left
+    next-on : (d j : ℕ) → j < n → d < depthOf (getD ws j 0) → (below hs d (from ws n j) ≡ entryBytes hs (getD ws j 0) + below hs d (from ws n (j + 1)))
+        × (j + span d (from ws n j) ≡ j + 1 + span d (from ws n (j + 1)))
+    unfolding below
+    next-on d j l k =
+        let b : span d (from ws n j) ≡ suc (span d (from ws n (j + 1))) = rw (add-one j) (span-on d j l k) in
+        (rw (from-at ws n j h l, lt-leb (depthOf (getD ws j 0)) d k, add-one j), omega (arith, b))
+
     -- an entry with all below it, and then what is left
     below-on : (d j : ℕ) → j < n → d < depthOf (getD ws j 0) → (below hs d (from ws n j) ≡ whole j + below hs d (from ws n (past j)))
         × (j + span d (from ws n j) ≡ past j + span d (from ws n (past j)))
-    unfolding below
     below-on d j l k =
         let e : ℕ = depthOf (getD ws j 0) in
         let s = rw (rest e j) at (split hs d e (omega arith) (from ws n (j + 1))) in
-        let a : below hs d (from ws n j) ≡ entryBytes hs (getD ws j 0) + below hs d (from ws n (j + 1)) = rw (from-at ws n j h l, lt-leb (depthOf (getD ws j 0)) d k, add-one j) in
-        let b : span d (from ws n j) ≡ suc (span d (from ws n (j + 1))) = rw (add-one j) (span-on d j l k) in
-        (omega (arith, a, s .0), omega (arith, b, s .1))
+        let o = next-on d j l k in
+        (omega (arith, o .0, s .0), omega (arith, o .1, s .1))
 
     pub sizes-end : (j : ℕ) → n ≤ j → sizes hs (from ws n j) ≡ 0
     unfolding nameTotal heldTotal
@@ -171,6 +177,10 @@ pub turn : (hs ws : List ℕ) (n d j b k : ℕ) (h : n ≤ length ws) → j < n 
 turn hs ws n d j b k h l m e f =
     let o = below-on ws n h hs d j l m in
     rw (e, f) (record { bytes = o .0; place = o .1; up = omega arith; within = span-fits ws n h (depthOf (getD ws j 0)) (j + 1) (omega arith) })
+
+-- the same past one record alone
+pub turn-one : (hs ws : List ℕ) (n d j b : ℕ) (h : n ≤ length ws) → j < n → d < depthOf (getD ws j 0) → b ≡ entryBytes hs (getD ws j 0) → Turn hs ws n d j b (j + 1)
+turn-one hs ws n d j b h l m e = let o = next-on ws n h hs d j l m in rw e (record { bytes = o .0; place = o .1; up = omega arith; within = omega arith })
 
 -- the same of the loop over all entries
 pub record Pass (hs ws : List ℕ) (n j b k : ℕ) : Type 0 where

@@ -1,7 +1,7 @@
 // The order of names.
 ghost use mathlib.Core.Path.{_≡_};
 ghost use Prim.Native.Nat.{_+_, _≤_, _<_};
-ghost use lib.ListN.{length};
+ghost use lib.ListN.{length, getD};
 ghost use Rattle.order.specs.Order.{orderOf, number, lengthOrder, Shorter};
 
 pub enum Order {
@@ -127,9 +127,35 @@ fn shorter(x: usize, y: usize) -> usize
     y
 }
 
+// The first eight bytes of a name as one number, with zeros where it is shorter.
+pub fn key(name: &[u8]) -> u64
+    ensures { λ r. ⌜ r ≡ number 8 0 (now (name .entry)) ⌝ }
+{
+    if 8 <= name.len() {
+        return word(name, 0);
+    }
+    let mut k: u64 = 0;
+    let mut i = 0;
+    while i < 8 {
+        k = k * 256 + byte_or_zero(name, i);
+        i += 1;
+    }
+    k
+}
+
+// A byte; 0 behind the last.
+fn byte_or_zero(s: &[u8], i: usize) -> u64
+    ensures { λ r. ⌜ (r ≡ getD (now (s .entry)) i 0) × (r < 256) ⌝ }
+{
+    if i < s.len() {
+        return wide(s[i]);
+    }
+    0
+}
+
 // Eight bytes from i on as one number, the first byte the highest. The last byte stands first here: then the compiler makes one
 // load of the eight (clang 22 does not, where the first byte stands first).
-fn word(s: &[u8], i: usize) -> u64
+pub fn word(s: &[u8], i: usize) -> u64
     requires { ⌜ i + 8 ≤ length (now s) ⌝ }
     ensures { λ r. ⌜ r ≡ number 8 i (now (s .entry)) ⌝ }
 {

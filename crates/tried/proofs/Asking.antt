@@ -1,13 +1,10 @@
--- What the tests say of a store. Slices that are as long as the limits ask are not cut, so what is lawful is the store itself; and a
--- lawful store is small enough for its bytes to be added up.
+-- What the tests say of a store. Slices that are as long as the limits ask are not cut, so what is lawful is the store itself.
 -- Assumes nothing.
 use mathlib.Core.Path.{_≡_, subst}
-use Prim.Native.Nat.{ℕ, _+_, _*_, _≤_, _<_}
+use Prim.Native.Nat.{_*_}
 use native.Mathlib.Omega.{arith}
-use lib.ListN.{length, take, getD}
+use lib.ListN.{length}
 use lib.Seq.{take-all}
-use Rattle.layout.specs.Rows.{nameTotal}
-use Rattle.layout.specs.Slots.{total}
 use Rattle.layout.specs.Store.{Store, most, room, slotsFor, cut}
 use Rattle.layout.specs.Lawful.{Lawful}
 use Rattle.tried.specs.Tried.{Whole}
@@ -24,9 +21,3 @@ uncut st w l =
       bytes = take-all (room st) (st .bytes) (omega (arith, w .bytes)) i;
     } in
     subst Lawful e l
-
--- what the sum of the bytes asks
-pub asks : (st : Store) → Lawful st → (free : ℕ) → free < 16777216
-    → (length (st .words) ≡ 101) × (getD (st .words) 2 0 ≤ length (st .records)) × (getD (st .words) 2 0 ≤ 4096) × (nameTotal (take (getD (st .words) 2 0) (st .records)) + total (st .heads) ≤ 1048576) × (length (st .bytes) ≤ 1048576) × (free < 16777216)
-asks st l free h =
-    (l .exact .words, omega (arith, l .counted, l .exact .records), omega (arith, l .counted, l .entryLimit .1), omega (arith, l .space, l .byteLimit .1), omega (arith, l .exact .bytes, l .byteLimit .1), h)

@@ -21,6 +21,10 @@ pub record Whole (ws : List ℕ) (rs hs ts ps bs : ℕ) : Type 0 where
   pub paths : ps ≡ 33792
   pub bytes : bs ≡ getD ws 1 0
 
+-- n more bytes are within the byte limit where `free` bytes go
+abbrev pub Fits : Store → ℕ → ℕ → Type 0
+Fits st free n = nameTotal (live st) + total (st .heads) + n ≤ room st + free
+
 -- the place before record k is the place of the entry x of the directory at record i, which has none of that name
 pub record Spotted (st : Store) (i k depth : ℕ) (x : Name) : Type 0 where
   pub after : i < k

@@ -1,13 +1,10 @@
 // What the edits ask of a store.
 ghost use mathlib.Core.Bool.{true};
 ghost use mathlib.Core.Path.{_≡_};
-ghost use Prim.Native.Nat.{_+_, _≤_, _<_};
-ghost use lib.ListN.{length, take, getD};
-ghost use Rattle.layout.specs.Rows.{nameTotal};
-ghost use Rattle.layout.specs.Slots.{total};
+ghost use Prim.Native.Nat.{_<_};
 ghost use Rattle.layout.specs.Store.{lent};
 ghost use Rattle.layout.specs.Lawful.{Lawful};
-ghost use Rattle.tried.specs.Tried.{Whole};
+ghost use Rattle.tried.specs.Tried.{Whole, Fits};
 
 // Whether slices of those lengths are as long as the limits ask, and no longer.
 fn whole(
@@ -66,23 +63,23 @@ pub fn ready(
     lawful::store_ok(words, records, heads, times, paths, bytes)
 }
 
-// Whether n more bytes are within the byte limit where `free` bytes go.
+// Whether n more bytes are within the byte limit where `free` bytes go: by the bytes used, worked out from the tree.
 pub fn room_for(
     words: &[u64],
     records: &[u64],
     heads: &[u64],
+    times: &[i64],
+    paths: &[u8],
     bytes: &[u8],
     free: usize,
     n: usize,
 ) -> bool
-    requires { ⌜ (length (now words) ≡ 101) × (getD (now words) 2 0 ≤ length (now records)) × (getD (now words) 2 0 ≤ 4096) × (nameTotal (take (getD (now words) 2 0) (now records)) + total (now heads) ≤ 1048576) × (length (now bytes) ≤ 1048576) × (free < 16777216) ⌝ }
-    ensures { λ r. ⌜ (r ≡ true → nameTotal (take (getD (now (words .entry)) 2 0) (now (records .entry))) + total (now (heads .entry)) + n ≤ length (now (bytes .entry)) + free) ⌝ }
+    requires { ⌜ Lawful (lent (now words) (now records) (now heads) (now times) (now paths) (now bytes)) × (free < 16777216) ⌝ }
+    ensures { λ r. ⌜ (r ≡ true → Fits (lent (now (words .entry)) (now (records .entry)) (now (heads .entry)) (now (times .entry)) (now (paths .entry)) (now (bytes .entry))) free n) ⌝ }
 {
     if 16777216 < n {
         return false;
     }
-    let count = words[2] as usize;
-    let names = records::names_to(records, count);
-    let all = slots::sum_to(heads, heads.len());
-    names + all + n <= bytes.len() + free
+    let used = used::bytes_used(words, records, heads, times, paths, bytes);
+    used + n <= bytes.len() + free
 }

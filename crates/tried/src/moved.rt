@@ -30,7 +30,16 @@ fn may_rename(
     if words[2] as usize <= i {
         return false;
     }
-    room_for(words, records, heads, bytes, layout::nlen_of(records[i]), n)
+    room_for(
+        words,
+        records,
+        heads,
+        times,
+        paths,
+        bytes,
+        layout::nlen_of(records[i]),
+        n,
+    )
 }
 
 // Whether record k is none of those from i to e.

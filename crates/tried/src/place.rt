@@ -135,5 +135,14 @@ pub fn insertable(
     if !may_hold(kind, text) {
         return false;
     }
-    crate::asked::room_for(words, records, heads, bytes, 0, name.len() + text.len())
+    crate::asked::room_for(
+        words,
+        records,
+        heads,
+        times,
+        paths,
+        bytes,
+        0,
+        name.len() + text.len(),
+    )
 }

@@ -124,7 +124,16 @@ pub fn contents_in(
     if kind_of(h) != 2 {
         return false;
     }
-    if !room_for(words, records, heads, bytes, len_of(h), text.len()) {
+    if !room_for(
+        words,
+        records,
+        heads,
+        times,
+        paths,
+        bytes,
+        len_of(h),
+        text.len(),
+    ) {
         return false;
     }
     changes::set_contents(words, records, heads, times, paths, bytes, slot, text, t);
@@ -169,7 +178,7 @@ pub fn try_length(
     if kind_of(h) != 2 {
         return false;
     }
-    if !room_for(words, records, heads, bytes, len_of(h), n) {
+    if !room_for(words, records, heads, times, paths, bytes, len_of(h), n) {
         return false;
     }
     changes::set_length(words, records, heads, times, paths, bytes, slot, n);

@@ -3,21 +3,23 @@
 -- Assumes nothing.
 use mathlib.Core.Bool.{Bool, cond}
 use mathlib.Core.List.{List, [], _∷_}
+use mathlib.Core.Logic.{_⊎_, inl, inr}
 use mathlib.Core.Path.{_≡_, refl, sym, ap, _∙_, subst}
 use Prim.Native.Nat.{ℕ, zero, suc, _+_, _*_, _≤_, _<_}
 use native.Mathlib.Nat.{zero-mul, one-mul}
 use native.Mathlib.Omega.{arith}
 use native.Mathlib.Decide.{ℕ-discrete}
-use lib.Dec.{eqb}
+use lib.Dec.{T, eqb, eqb→eq}
 use borrow.Author.Tests.{eq-eqb, ne-eqb}
 use lib.ListN.{length, take, drop, getD}
 use Rattle.text.specs.Utf8.{Bytes}
 use Rattle.model.specs.Tree.{Path, Entries, links}
 use Rattle.model.specs.Calls.{bytesUsed}
+use Rattle.model.proofs.Contents.{or-elim}
 use Rattle.layout.specs.Fields.{depthOf, lenOf, nlenOf, slotOf}
 use Rattle.layout.specs.Rows.{Row, rows, nameTotal, pathOf, treeFrom}
-use Rattle.layout.specs.Store.{Store, live, rowsOf, kindAt, nodeAt, state}
-use Rattle.layout.specs.Lawful.{uses, Lawful}
+use Rattle.layout.specs.Store.{Store, holder, live, rowsOf, kindAt, nodeAt, state}
+use Rattle.layout.specs.Lawful.{uses, heldFrom, Lawful}
 use Rattle.layout.proofs.Roots.{all-slots}
 use Rattle.layout.proofs.Slotted.{SlotOf, free, directory, named, removed, target, slot-of, dir-at, file-at, link-at}
 use Rattle.layout.proofs.Sums.{sumFrom, sum-same, sum-both, sumRows, sum-rows}
@@ -26,7 +28,7 @@ use Rattle.layout.proofs.Walks.{SlotsIn}
 use Rattle.find.specs.Totals.{headOf, heldTotal, linkTotal}
 use Rattle.marks.specs.Uses.{usesIn, Within}
 use Rattle.marks.proofs.Rowed.{uses-rows, words-within, used-once}
-use Rattle.used.specs.Unnamed.{alone, aloneFrom, unnamed}
+use Rattle.used.specs.Unnamed.{AllClosed, alone, aloneFrom, unnamed}
 
 -- ---- sums
 
@@ -73,6 +75,37 @@ module _ (st : Store) (l : Lawful st) where
         sum-same (λ i. uses i rs * g i + alone u (st .heads) i) g n 0
             (λ i a b. ap (λ (m : ℕ). m * g i + alone u (st .heads) i) (uses-rows i (live st) (st .bytes)) ∙ one-slot (u i) (g i) (st .heads) i (once i (omega arith)) refl),
       )
+
+  -- ---- no number is open: what no record has holds nothing
+
+  unheld : (n i k : ℕ) → AllClosed (st .words) → i + n ≤ 32 → T (heldFrom st n i k) → ⊥
+  unfolding heldFrom
+  unheld zero i k c h t = absurd t
+  unheld (suc n) i k c h t = go (or-elim (eqb (holder st i) (suc k)) (heldFrom st n (suc i) k) t) (unheld n (suc i) k c (omega arith))
+    where
+      go : T (eqb (holder st i) (suc k)) ⊎ T (heldFrom st n (suc i) k) → (T (heldFrom st n (suc i) k) → ⊥) → ⊥
+      go (inl a) ih = absurd (omega (arith, eqb→eq (holder st i) (suc k) a, c i (omega arith)))
+      go (inr a) ih = ih a
+
+  -- a slot that no record has is free
+  none-left : AllClosed (st .words) → (k : ℕ) → k < length (st .heads) → alone (λ i. usesIn i (live st)) (st .heads) k ≡ 0
+  none-left c k h = by (usesIn k (live st)) (sym (uses-rows k (live st) (st .bytes))) (slot-of st k (l .slots k h))
+    where
+      by : (u : ℕ) → u ≡ uses k (rowsOf st) → SlotOf st k → cond (eqb u 0) (lenOf (getD (st .heads) k 0)) 0 ≡ 0
+      by zero e (free x y z w) = omega (arith, ap lenOf y)
+      by zero e (directory x y z w) = absurd (omega (arith, e, z))
+      by zero e (named x z) = absurd (omega (arith, e, z))
+      by zero e (removed x z w) = absurd (unheld 32 0 k c (omega arith) w)
+      by zero e (target x y z w) = absurd (omega (arith, e, z))
+      by (suc u) e s = ap (λ (b : Bool). cond b (lenOf (getD (st .heads) k 0)) 0) (ne-eqb (suc u) 0 (λ z. absurd (omega (arith, z))))
+
+  alone-none : (n k : ℕ) → AllClosed (st .words) → k + n ≤ length (st .heads) → aloneFrom (λ i. usesIn i (live st)) (st .heads) n k ≡ 0
+  unfolding aloneFrom
+  alone-none zero k c h = refl
+  alone-none (suc n) k c h = omega (arith, none-left c k (omega arith), alone-none n (suc k) c (omega arith))
+
+  pub closed-bytes : AllClosed (st .words) → nameTotal (live st) + heldTotal (st .heads) (live st) ≡ bytesUsed (state st)
+  closed-bytes c = omega (arith, bytes-by, alone-none (length (st .heads)) 0 c (omega arith))
 
   -- ---- links
 

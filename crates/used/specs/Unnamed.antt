@@ -2,11 +2,16 @@
 -- Assumes nothing.
 use mathlib.Core.Bool.{cond}
 use mathlib.Core.List.{List}
-use Prim.Native.Nat.{ℕ, zero, suc, _+_}
+use mathlib.Core.Path.{_≡_}
+use Prim.Native.Nat.{ℕ, zero, suc, _+_, _*_, _<_}
 use lib.Dec.{eqb}
 use lib.ListN.{length, getD}
 use Rattle.layout.specs.Fields.{lenOf}
 use Rattle.marks.specs.Uses.{usesIn}
+
+-- every file number is closed: no file that is not named is still open
+abbrev pub AllClosed : List ℕ → Type 0
+AllClosed ws = (j : ℕ) → j < 32 → getD ws (5 + 3 * j) 0 ≡ 0
 
 -- the bytes of a slot, by how many records have it
 abbrev pub alone : (ℕ → ℕ) → List ℕ → ℕ → ℕ

@@ -1,4 +1,5 @@
 // Bytes used and the number of links, worked out from the tree (01, "Limits").
+ghost use mathlib.Core.Bool.{true};
 ghost use mathlib.Core.Path.{_≡_};
 ghost use Prim.Native.Nat.{ℕ, _≤_};
 ghost use lib.ListN.{length};
@@ -7,7 +8,7 @@ ghost use Rattle.model.specs.Tree.{links};
 ghost use Rattle.layout.specs.Store.{lent, state};
 ghost use Rattle.layout.specs.Lawful.{Lawful};
 ghost use Rattle.marks.specs.Uses.{Within, usesIn};
-ghost use Rattle.used.specs.Unnamed.{unnamed, unmarkedBytes};
+ghost use Rattle.used.specs.Unnamed.{AllClosed, unnamed, unmarkedBytes};
 
 // The bytes of the slots that no record has marked: removed files that are still open.
 fn unmarked(heads: &[u64], marks: &[u8; 4128]) -> usize
@@ -38,6 +39,21 @@ fn removed_bytes(recs: &[u64], heads: &[u64]) -> usize
     unmarked(heads, &marks)
 }
 
+// Whether every file number is closed.
+fn none_open(words: &[u64]) -> bool
+    requires { ⌜ 101 ≤ length (now words) ⌝ }
+    ensures { λ r. ⌜ (r ≡ true → AllClosed (now (words .entry))) ⌝ }
+{
+    let mut j: usize = 0;
+    while j < 32 {
+        if words[5 + 3 * j] != 0 {
+            return false;
+        }
+        j += 1;
+    }
+    true
+}
+
 // "Bytes used are names, targets and contents in the tree, plus contents of removed files still open."
 pub fn bytes_used(
     words: &[u64],
@@ -52,6 +68,9 @@ pub fn bytes_used(
 {
     let count = words[2] as usize;
     let tree = find::tree_bytes(records, heads, count);
+    if none_open(words) {
+        return tree;
+    }
     tree + removed_bytes(&records[..count], heads)
 }
 

@@ -5,7 +5,7 @@ use native.Mathlib.Omega.{arith}
 use borrow.Author.Needs.{needs}
 use Rattle.find.specs.Totals.{span, below}
 use Rattle.find.proofs.Reading.{from}
-use Rattle.find.proofs.Sums.{slot-in, span-end, span-out, below-fits, below-end, below-out, turn}
+use Rattle.find.proofs.Sums.{slot-in, span-end, span-out, below-fits, below-end, below-out, turn, turn-one}
 use Prim.Native.Nat.{ℕ, _<_}
 use borrow.Fn.Kinds.{In}
 use borrow.Fn.PlainCycle.{Measures, is, falls, and}
@@ -16,6 +16,7 @@ use Rattle.find.proofs.entry_total.Reads as entry-total
 use Rattle.find.proofs.entry_total.Kinds as entry-total-kinds
 use Rattle.find.proofs.+dir_total+entry_total.Lts-entry_total as entry-total-lts
 use Rattle.find.proofs.entry_bytes.Reads as entry-bytes-reads
+use Rattle.find.proofs.is_leaf.Reads as is-leaf-reads
 use Rattle.layout.proofs.depth_of.Reads as depth-of-reads
 use Rattle.find.proofs.+dir_total+entry_total.{statement}
 use Rattle.find.proofs.+dir_total+entry_total.Tie.{close}
@@ -47,113 +48,235 @@ dir-total-Inv-loop records heads count i d j₀ s₀ j s = (i ≤ j) × (j ≤ c
 abbrev dir-total-μ-loop : dir-total-lts.MeasureT-loop
 dir-total-μ-loop records heads count i d j₀ s₀ j s = count - j
 
--- src/lib.rt:98:5
+-- src/lib.rt:185:5
 dir-total-loop-holds : (t : ℕ) → dir-total-lts.Need-loop-holds (
   depth-of-reads.Asked,
   depth-of-reads.Learnt,
+  is-leaf-reads.Asked,
+  is-leaf-reads.Learnt,
+  entry-bytes-reads.Asked,
+  entry-bytes-reads.Learnt,
   entry-total-below t,
   entry-total.Post,
 ) (dir-total-at t) dir-total.Post dir-total-Inv-loop dir-total-μ-loop
 dir-total-loop-holds t c = omega arith
 
--- src/lib.rt:99:21
-dir-total-mul-depth-of : (t : ℕ) → dir-total-lts.Need-mul-depth-of (
+-- src/lib.rt:186:17
+dir-total-mul-w : (t : ℕ) → dir-total-lts.Need-mul-w (
   depth-of-reads.Asked,
   depth-of-reads.Learnt,
+  is-leaf-reads.Asked,
+  is-leaf-reads.Learnt,
+  entry-bytes-reads.Asked,
+  entry-bytes-reads.Learnt,
   entry-total-below t,
   entry-total.Post,
 ) (dir-total-at t) dir-total.Post dir-total-Inv-loop dir-total-μ-loop
-dir-total-mul-depth-of t c = omega arith
+dir-total-mul-w t c = omega arith
 
--- src/lib.rt:99:21
-dir-total-shared-slice-read-depth-of : (t : ℕ) → dir-total-lts.Need-shared-slice-read-depth-of (
+-- src/lib.rt:186:17
+dir-total-shared-slice-read-w : (t : ℕ) → dir-total-lts.Need-shared-slice-read-w (
   depth-of-reads.Asked,
   depth-of-reads.Learnt,
+  is-leaf-reads.Asked,
+  is-leaf-reads.Learnt,
+  entry-bytes-reads.Asked,
+  entry-bytes-reads.Learnt,
   entry-total-below t,
   entry-total.Post,
 ) (dir-total-at t) dir-total.Post dir-total-Inv-loop dir-total-μ-loop
-dir-total-shared-slice-read-depth-of t c = omega arith
+dir-total-shared-slice-read-w t c = omega arith
 
--- src/lib.rt:99:12
+-- src/lib.rt:187:13
 dir-total-depth-of-requires : (t : ℕ) → dir-total-lts.Need-depth-of-requires (
   depth-of-reads.Asked,
   depth-of-reads.Learnt,
+  is-leaf-reads.Asked,
+  is-leaf-reads.Learnt,
+  entry-bytes-reads.Asked,
+  entry-bytes-reads.Learnt,
   entry-total-below t,
   entry-total.Post,
 ) (dir-total-at t) dir-total.Post dir-total-Inv-loop dir-total-μ-loop
 dir-total-depth-of-requires t c κs = search needs
 
--- src/lib.rt:100:13
+-- src/lib.rt:189:13
 dir-total-returns : (t : ℕ) → dir-total-lts.Need-returns (
   depth-of-reads.Asked,
   depth-of-reads.Learnt,
+  is-leaf-reads.Asked,
+  is-leaf-reads.Learnt,
+  entry-bytes-reads.Asked,
+  entry-bytes-reads.Learnt,
   entry-total-below t,
   entry-total.Post,
 ) (dir-total-at t) dir-total.Post dir-total-Inv-loop dir-total-μ-loop
-dir-total-returns t c =
-    let a = c .before .before .before .before .before .before .before .args in
+dir-total-returns t c = let a = c .before .before .before .before .before .before .before .args in
     let l = c .before .before .before .before .loop in
     let p = c .before .before .before .before .before .before .before .pre .1 in
     omega (arith, l .inv .2, l .inv .3, below-out (a .records .now) (a .count) (p .0) (a .heads .now) (a .d) (l .j) (c .before .before .before .loop-test .taken) (omega arith), span-out (a .records .now) (a .count) (p .0) (a .d) (l .j) (c .before .before .before .loop-test .taken) (omega arith))
 
--- src/lib.rt:102:13
-dir-total-entry-total-requires : (t : ℕ) → dir-total-lts.Need-entry-total-requires (
+-- src/lib.rt:191:12
+dir-total-is-leaf-requires : (t : ℕ) → dir-total-lts.Need-is-leaf-requires (
   depth-of-reads.Asked,
   depth-of-reads.Learnt,
+  is-leaf-reads.Asked,
+  is-leaf-reads.Learnt,
+  entry-bytes-reads.Asked,
+  entry-bytes-reads.Learnt,
   entry-total-below t,
   entry-total.Post,
 ) (dir-total-at t) dir-total.Post dir-total-Inv-loop dir-total-μ-loop
-dir-total-entry-total-requires t c κs =
-    let l = c .before .before .before .before .loop in
-    let p = c .before .before .before .before .before .before .before .pre .1 in
-    (omega arith, (p .0, p .1, omega arith, p .3))
+dir-total-is-leaf-requires t c κs = let p = c .before .before .before .before .before .before .before .pre .1 in (p .0, omega arith)
 
--- src/lib.rt:103:13
+-- src/lib.rt:192:21
+dir-total-entry-bytes-requires : (t : ℕ) → dir-total-lts.Need-entry-bytes-requires (
+  depth-of-reads.Asked,
+  depth-of-reads.Learnt,
+  is-leaf-reads.Asked,
+  is-leaf-reads.Learnt,
+  entry-bytes-reads.Asked,
+  entry-bytes-reads.Learnt,
+  entry-total-below t,
+  entry-total.Post,
+) (dir-total-at t) dir-total.Post dir-total-Inv-loop dir-total-μ-loop
+dir-total-entry-bytes-requires t c κs = let a = c .before .before .before .before .before .before .before .before .before .args in
+    let l = c .before .before .before .before .before .before .loop in
+    let p = c .before .before .before .before .before .before .before .before .before .pre .1 in
+    slot-in (a .records .now) (a .count) (p .0) (a .heads .now) (l .j) (p .3) (c .before .before .before .before .before .loop-test .taken)
+
+-- src/lib.rt:192:17
 dir-total-add-s : (t : ℕ) → dir-total-lts.Need-add-s (
   depth-of-reads.Asked,
   depth-of-reads.Learnt,
+  is-leaf-reads.Asked,
+  is-leaf-reads.Learnt,
+  entry-bytes-reads.Asked,
+  entry-bytes-reads.Learnt,
   entry-total-below t,
   entry-total.Post,
 ) (dir-total-at t) dir-total.Post dir-total-Inv-loop dir-total-μ-loop
-dir-total-add-s t c =
-    let a = c .before .before .before .before .before .before .before .before .before .args in
-    let l = c .before .before .before .before .before .before .loop in
-    let p = c .before .before .before .before .before .before .before .before .before .pre .1 in
-    let w = turn (a .heads .now) (a .records .now) (a .count) (a .d) (l .j) (c .before .entry-total .result .bytes) (c .before .entry-total .result .next) (p .0) (c .before .before .before .before .before .loop-test .taken) (omega arith) (c .before .entry-total .ensures .0) (c .before .entry-total .ensures .1) in
+dir-total-add-s t c = let a = c .before .before .before .before .before .before .before .before .before .before .args in
+    let l = c .before .before .before .before .before .before .before .loop in
+    let p = c .before .before .before .before .before .before .before .before .before .before .pre .1 in
+    let w = turn-one (a .heads .now) (a .records .now) (a .count) (a .d) (l .j) (c .entry-bytes .result) (p .0) (c .before .before .before .before .before .before .loop-test .taken) (omega arith) (c .entry-bytes .ensures) in
     omega (arith, below-fits (a .records .now) (a .count) (p .0) (a .heads .now) (a .d) (a .i))
 
--- src/lib.rt:98:5
+-- src/lib.rt:193:13
+dir-total-add-j : (t : ℕ) → dir-total-lts.Need-add-j (
+  depth-of-reads.Asked,
+  depth-of-reads.Learnt,
+  is-leaf-reads.Asked,
+  is-leaf-reads.Learnt,
+  entry-bytes-reads.Asked,
+  entry-bytes-reads.Learnt,
+  entry-total-below t,
+  entry-total.Post,
+) (dir-total-at t) dir-total.Post dir-total-Inv-loop dir-total-μ-loop
+dir-total-add-j t c = omega arith
+
+-- src/lib.rt:185:5
 dir-total-loop-less : (t : ℕ) → dir-total-lts.Need-loop-less (
   depth-of-reads.Asked,
   depth-of-reads.Learnt,
+  is-leaf-reads.Asked,
+  is-leaf-reads.Learnt,
+  entry-bytes-reads.Asked,
+  entry-bytes-reads.Learnt,
   entry-total-below t,
   entry-total.Post,
 ) (dir-total-at t) dir-total.Post dir-total-Inv-loop dir-total-μ-loop
-dir-total-loop-less t c =
-    let a = c .before .before .before .before .before .before .before .before .before .args in
-    let l = c .before .before .before .before .before .before .loop in
-    let p = c .before .before .before .before .before .before .before .before .before .pre .1 in
-    let w = turn (a .heads .now) (a .records .now) (a .count) (a .d) (l .j) (c .before .entry-total .result .bytes) (c .before .entry-total .result .next) (p .0) (c .before .before .before .before .before .loop-test .taken) (omega arith) (c .before .entry-total .ensures .0) (c .before .entry-total .ensures .1) in
-    omega arith
+dir-total-loop-less t c = omega arith
 
--- src/lib.rt:98:5
+-- src/lib.rt:185:5
 dir-total-loop-again : (t : ℕ) → dir-total-lts.Need-loop-again (
   depth-of-reads.Asked,
   depth-of-reads.Learnt,
+  is-leaf-reads.Asked,
+  is-leaf-reads.Learnt,
+  entry-bytes-reads.Asked,
+  entry-bytes-reads.Learnt,
   entry-total-below t,
   entry-total.Post,
 ) (dir-total-at t) dir-total.Post dir-total-Inv-loop dir-total-μ-loop
-dir-total-loop-again t c =
-    let a = c .before .before .before .before .before .before .before .before .before .args in
-    let l = c .before .before .before .before .before .before .loop in
-    let p = c .before .before .before .before .before .before .before .before .before .pre .1 in
-    let w = turn (a .heads .now) (a .records .now) (a .count) (a .d) (l .j) (c .before .entry-total .result .bytes) (c .before .entry-total .result .next) (p .0) (c .before .before .before .before .before .loop-test .taken) (omega arith) (c .before .entry-total .ensures .0) (c .before .entry-total .ensures .1) in
+dir-total-loop-again t c = let a = c .before .before .before .before .before .before .before .before .before .before .args in
+    let l = c .before .before .before .before .before .before .before .loop in
+    let p = c .before .before .before .before .before .before .before .before .before .before .pre .1 in
+    let w = turn-one (a .heads .now) (a .records .now) (a .count) (a .d) (l .j) (c .entry-bytes .result) (p .0) (c .before .before .before .before .before .before .loop-test .taken) (omega arith) (c .entry-bytes .ensures) in
     omega arith
 
--- src/lib.rt:92:1
+-- src/lib.rt:196:13
+dir-total-entry-total-requires : (t : ℕ) → dir-total-lts.Need-entry-total-requires (
+  depth-of-reads.Asked,
+  depth-of-reads.Learnt,
+  is-leaf-reads.Asked,
+  is-leaf-reads.Learnt,
+  entry-bytes-reads.Asked,
+  entry-bytes-reads.Learnt,
+  entry-total-below t,
+  entry-total.Post,
+) (dir-total-at t) dir-total.Post dir-total-Inv-loop dir-total-μ-loop
+dir-total-entry-total-requires t c κs = let p = c .before .before .before .before .before .before .before .before .before .pre .1 in (omega arith, (p .0, p .1, omega arith, p .3))
+
+-- src/lib.rt:197:13
+dir-total-add-s-2 : (t : ℕ) → dir-total-lts.Need-add-s-2 (
+  depth-of-reads.Asked,
+  depth-of-reads.Learnt,
+  is-leaf-reads.Asked,
+  is-leaf-reads.Learnt,
+  entry-bytes-reads.Asked,
+  entry-bytes-reads.Learnt,
+  entry-total-below t,
+  entry-total.Post,
+) (dir-total-at t) dir-total.Post dir-total-Inv-loop dir-total-μ-loop
+dir-total-add-s-2 t c = let a = c .before .before .before .before .before .before .before .before .before .before .before .args in
+    let l = c .before .before .before .before .before .before .before .before .loop in
+    let p = c .before .before .before .before .before .before .before .before .before .before .before .pre .1 in
+    let w = turn (a .heads .now) (a .records .now) (a .count) (a .d) (l .j) (c .before .entry-total .result .bytes) (c .before .entry-total .result .next) (p .0) (c .before .before .before .before .before .before .before .loop-test .taken) (omega arith) (c .before .entry-total .ensures .0) (c .before .entry-total .ensures .1) in
+    omega (arith, below-fits (a .records .now) (a .count) (p .0) (a .heads .now) (a .d) (a .i))
+
+-- src/lib.rt:185:5
+dir-total-loop-less-2 : (t : ℕ) → dir-total-lts.Need-loop-less-2 (
+  depth-of-reads.Asked,
+  depth-of-reads.Learnt,
+  is-leaf-reads.Asked,
+  is-leaf-reads.Learnt,
+  entry-bytes-reads.Asked,
+  entry-bytes-reads.Learnt,
+  entry-total-below t,
+  entry-total.Post,
+) (dir-total-at t) dir-total.Post dir-total-Inv-loop dir-total-μ-loop
+dir-total-loop-less-2 t c = let a = c .before .before .before .before .before .before .before .before .before .before .before .args in
+    let l = c .before .before .before .before .before .before .before .before .loop in
+    let p = c .before .before .before .before .before .before .before .before .before .before .before .pre .1 in
+    let w = turn (a .heads .now) (a .records .now) (a .count) (a .d) (l .j) (c .before .entry-total .result .bytes) (c .before .entry-total .result .next) (p .0) (c .before .before .before .before .before .before .before .loop-test .taken) (omega arith) (c .before .entry-total .ensures .0) (c .before .entry-total .ensures .1) in
+    omega arith
+
+-- src/lib.rt:185:5
+dir-total-loop-again-2 : (t : ℕ) → dir-total-lts.Need-loop-again-2 (
+  depth-of-reads.Asked,
+  depth-of-reads.Learnt,
+  is-leaf-reads.Asked,
+  is-leaf-reads.Learnt,
+  entry-bytes-reads.Asked,
+  entry-bytes-reads.Learnt,
+  entry-total-below t,
+  entry-total.Post,
+) (dir-total-at t) dir-total.Post dir-total-Inv-loop dir-total-μ-loop
+dir-total-loop-again-2 t c = let a = c .before .before .before .before .before .before .before .before .before .before .before .args in
+    let l = c .before .before .before .before .before .before .before .before .loop in
+    let p = c .before .before .before .before .before .before .before .before .before .before .before .pre .1 in
+    let w = turn (a .heads .now) (a .records .now) (a .count) (a .d) (l .j) (c .before .entry-total .result .bytes) (c .before .entry-total .result .next) (p .0) (c .before .before .before .before .before .before .before .loop-test .taken) (omega arith) (c .before .entry-total .ensures .0) (c .before .entry-total .ensures .1) in
+    omega arith
+
+-- src/lib.rt:179:1
 dir-total-returns-2 : (t : ℕ) → dir-total-lts.Need-returns-2 (
   depth-of-reads.Asked,
   depth-of-reads.Learnt,
+  is-leaf-reads.Asked,
+  is-leaf-reads.Learnt,
+  entry-bytes-reads.Asked,
+  entry-bytes-reads.Learnt,
   entry-total-below t,
   entry-total.Post,
 ) (dir-total-at t) dir-total.Post dir-total-Inv-loop dir-total-μ-loop
@@ -163,7 +286,7 @@ dir-total-returns-2 t c =
     let p = c .before .before .before .before .pre .1 in
     omega (arith, l .inv .2, l .inv .3, below-end (a .records .now) (a .count) (p .0) (a .heads .now) (a .d) (l .j) (omega arith), span-end (a .records .now) (a .count) (p .0) (a .d) (l .j) (omega arith))
 
--- src/lib.rt:114:13
+-- src/lib.rt:208:13
 entry-total-mul-w : (t : ℕ) → entry-total-lts.Need-mul-w (
   entry-bytes-reads.Asked,
   entry-bytes-reads.Learnt,
@@ -174,7 +297,7 @@ entry-total-mul-w : (t : ℕ) → entry-total-lts.Need-mul-w (
 ) (entry-total-at t) entry-total.Post
 entry-total-mul-w t c = omega arith
 
--- src/lib.rt:114:13
+-- src/lib.rt:208:13
 entry-total-shared-slice-read-w : (t : ℕ) → entry-total-lts.Need-shared-slice-read-w (
   entry-bytes-reads.Asked,
   entry-bytes-reads.Learnt,
@@ -185,7 +308,7 @@ entry-total-shared-slice-read-w : (t : ℕ) → entry-total-lts.Need-shared-slic
 ) (entry-total-at t) entry-total.Post
 entry-total-shared-slice-read-w t c = omega arith
 
--- src/lib.rt:115:9
+-- src/lib.rt:209:9
 entry-total-entry-bytes-requires : (t : ℕ) → entry-total-lts.Need-entry-bytes-requires (
   entry-bytes-reads.Asked,
   entry-bytes-reads.Learnt,
@@ -199,7 +322,7 @@ entry-total-entry-bytes-requires t c κs =
     let p = c .before .before .before .pre .1 in
     slot-in (a .records .now) (a .count) (p .0) (a .heads .now) (a .i) (p .3) (p .2)
 
--- src/lib.rt:116:46
+-- src/lib.rt:210:46
 entry-total-add-dir-total : (t : ℕ) → entry-total-lts.Need-add-dir-total (
   entry-bytes-reads.Asked,
   entry-bytes-reads.Learnt,
@@ -210,7 +333,7 @@ entry-total-add-dir-total : (t : ℕ) → entry-total-lts.Need-add-dir-total (
 ) (entry-total-at t) entry-total.Post
 entry-total-add-dir-total t c = omega arith
 
--- src/lib.rt:116:53
+-- src/lib.rt:210:53
 entry-total-depth-of-requires : (t : ℕ) → entry-total-lts.Need-depth-of-requires (
   entry-bytes-reads.Asked,
   entry-bytes-reads.Learnt,
@@ -221,7 +344,7 @@ entry-total-depth-of-requires : (t : ℕ) → entry-total-lts.Need-depth-of-requ
 ) (entry-total-at t) entry-total.Post
 entry-total-depth-of-requires t c κs = search needs
 
--- src/lib.rt:116:9
+-- src/lib.rt:210:9
 entry-total-dir-total-requires : (t : ℕ) → entry-total-lts.Need-dir-total-requires (
   entry-bytes-reads.Asked,
   entry-bytes-reads.Learnt,
@@ -234,7 +357,7 @@ entry-total-dir-total-requires t c κs =
     let p = c .before .before .before .before .before .pre .1 in
     (omega arith, (p .0, p .1, omega arith, p .3))
 
--- src/lib.rt:118:16
+-- src/lib.rt:212:16
 entry-total-add-t8 : (t : ℕ) → entry-total-lts.Need-add-t8 (
   entry-bytes-reads.Asked,
   entry-bytes-reads.Learnt,
@@ -247,7 +370,7 @@ entry-total-add-t8 t c =
     let a = c .before .before .before .before .before .before .before .args in
     omega (arith, below-fits (a .records .now) (a .count) (c .before .before .before .before .before .before .before .pre .1 .0) (a .heads .now) (c .before .before .depth-of .result) (a .i + 1), c .before .before .before .entry-bytes .ensures)
 
--- src/lib.rt:110:1
+-- src/lib.rt:204:1
 entry-total-returns : (t : ℕ) → entry-total-lts.Need-returns (
   entry-bytes-reads.Asked,
   entry-bytes-reads.Learnt,
@@ -266,6 +389,10 @@ pub +dir-total+entry-total-spec : {M : Type 1} → statement M
 +dir-total+entry-total-spec = close μ-dir-total μ-entry-total (λ t. dir-total-lts.spec (
   depth-of-reads.Asked,
   depth-of-reads.Learnt,
+  is-leaf-reads.Asked,
+  is-leaf-reads.Learnt,
+  entry-bytes-reads.Asked,
+  entry-bytes-reads.Learnt,
   entry-total-below t,
   entry-total.Post,
 )
@@ -274,14 +401,20 @@ pub +dir-total+entry-total-spec : {M : Type 1} → statement M
     dir-total-Inv-loop
     dir-total-μ-loop
     (dir-total-loop-holds t)
-    (dir-total-mul-depth-of t)
-    (dir-total-shared-slice-read-depth-of t)
+    (dir-total-mul-w t)
+    (dir-total-shared-slice-read-w t)
     (dir-total-depth-of-requires t)
     (dir-total-returns t)
-    (dir-total-entry-total-requires t)
+    (dir-total-is-leaf-requires t)
+    (dir-total-entry-bytes-requires t)
     (dir-total-add-s t)
+    (dir-total-add-j t)
     (dir-total-loop-less t)
     (dir-total-loop-again t)
+    (dir-total-entry-total-requires t)
+    (dir-total-add-s-2 t)
+    (dir-total-loop-less-2 t)
+    (dir-total-loop-again-2 t)
     (dir-total-returns-2 t))
     λ t. entry-total-lts.spec (
       entry-bytes-reads.Asked,

@@ -1,50 +1,43 @@
--- `room_for` meets its contract: it adds the bytes up and compares.
+-- `room_for` meets its contract: the bytes used are those of the names and of the slots.
 -- Assumes nothing.
 use mathlib.Core.Bool.{false≢true}
-use mathlib.Core.Path.{_≡_, ap, _∙_}
+use mathlib.Core.Path.{_≡_, _∙_}
 use native.Mathlib.Omega.{arith}
 use Prim.Native.Nat.{_+_}
 use lib.ListN.{length}
-use lib.Seq.{take-length}
-use borrow.Author.Tests.{leb-true}
-use Rattle.layout.specs.Slots.{total}
 use borrow.Author.Needs.{needs}
+use borrow.Author.Tests.{leb-true}
+use Rattle.layout.specs.Rows.{nameTotal}
+use Rattle.layout.specs.Slots.{total}
+use Rattle.layout.specs.Store.{lent, live}
+use Rattle.layout.proofs.Used.{bytes-used}
 use Rattle.tried.proofs.asked.room_for.Statement.{statement}
 use Rattle.tried.proofs.asked.room_for.Tie as tie
 
+-- src/asked.rt:81:9
 returns : tie.Need-returns
 returns c = λ h. absurd (false≢true h)
 
-shared-slice-read-count : tie.Need-shared-slice-read-count
-shared-slice-read-count c = search needs
+-- src/asked.rt:83:9
+bytes-used-requires : tie.Need-bytes-used-requires
+bytes-used-requires c κs = search needs
 
-names-to-requires : tie.Need-names-to-requires
-names-to-requires c κs = search needs
-
-sum-to-requires : tie.Need-sum-to-requires
-sum-to-requires c κs = (omega arith, omega (arith, c .before .before .before .before .before .before .before .pre .3))
+-- src/asked.rt:84:5
+-- the bytes used, by the words
+counted : (c : tie.After-bytes-used) → let a = c .before .before .before .before .before .before .before .args in let st = lent (a .words .now) (a .records .now) (a .heads .now) (a .times .now) (a .paths .now) (a .bytes .now) in
+    c .bytes-used .result ≡ nameTotal (live st) + total (a .heads .now)
+counted c = let a = c .before .before .before .before .before .before .before .args in let st = lent (a .words .now) (a .records .now) (a .heads .now) (a .times .now) (a .paths .now) (a .bytes .now) in c .bytes-used .ensures ∙ bytes-used st (c .before .before .before .before .before .before .before .pre .0)
 
 add-result : tie.Need-add-result
-add-result c = let a = c .before .before .before .before .before .before .before .before .args in let e : c .sum-to .result ≡ total (a .heads .now) = c .sum-to .ensures ∙ ap total (take-length (a .heads .now)) in omega (arith, e, c .before .names-to .ensures, c .before .before .before .before .before .before .before .before .pre .3)
+add-result c = let l = c .before .before .before .before .before .before .before .pre .0 in omega (arith, counted c, l .space, l .byteLimit .1, c .before .if1 .left)
 
+-- src/asked.rt:84:17
 add-result-2 : tie.Need-add-result-2
-add-result-2 c = let a = c .before .before .before .before .before .before .before .before .args in let e : c .sum-to .result ≡ total (a .heads .now) = c .sum-to .ensures ∙ ap total (take-length (a .heads .now)) in omega (arith, e, c .before .names-to .ensures, c .before .before .before .before .before .before .before .before .pre .3, c .before .before .before .if1 .left)
+add-result-2 c = search needs
 
-add-result-3 : tie.Need-add-result-3
-add-result-3 c = search needs
-
+-- src/asked.rt:67:1
 returns-2 : tie.Need-returns-2
-returns-2 c = let a = c .before .before .before .before .before .before .before .before .args in let e : c .sum-to .result ≡ total (a .heads .now) = c .sum-to .ensures ∙ ap total (take-length (a .heads .now)) in λ h. omega (arith, e, c .before .names-to .ensures, leb-true (c .before .names-to .result + c .sum-to .result + a .n) (length (a .bytes .now) + a .free) h)
+returns-2 c = let a = c .before .before .before .before .before .before .before .args in λ h. omega (arith, counted c, c .before .before .before .before .before .before .before .pre .0 .exact .bytes, leb-true (c .bytes-used .result + a .n) (length (a .bytes .now) + a .free) h)
 
 pub room-for-spec : {M : Type 1} → statement M
-room-for-spec =
-    tie.close
-    (tie.spec
-    returns
-    shared-slice-read-count
-    names-to-requires
-    sum-to-requires
-    add-result
-    add-result-2
-    add-result-3
-    returns-2)
+room-for-spec = tie.close (tie.spec returns bytes-used-requires add-result add-result-2 returns-2)

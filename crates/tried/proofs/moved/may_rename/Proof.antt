@@ -2,8 +2,6 @@
 -- Assumes nothing.
 use mathlib.Core.Bool.{false≢true}
 use native.Mathlib.Omega.{arith}
-use Rattle.layout.specs.Store.{lent}
-use Rattle.tried.proofs.Asking.{asks}
 use borrow.Author.Needs.{needs}
 use Rattle.tried.proofs.moved.may_rename.Statement.{statement}
 use Rattle.tried.proofs.moved.may_rename.Tie as tie
@@ -27,10 +25,10 @@ nlen-of-requires : tie.Need-nlen-of-requires
 nlen-of-requires c κs = search needs
 
 room-for-requires : tie.Need-room-for-requires
-room-for-requires c κs = let b = c .before .before .before .before .before .before .before .before .before .before in let a = b .args in let st = lent (a .words .now) (a .records .now) (a .heads .now) (a .times .now) (a .paths .now) (a .bytes .now) in asks st (b .pre) (c .nlen-of .result) (omega (arith, c .nlen-of .ensures))
+room-for-requires c κs = (c .before .before .before .before .before .before .before .before .before .before .pre, omega (arith, c .nlen-of .ensures))
 
 returns-3 : tie.Need-returns-3
-returns-3 c = λ h. let l = c .before .before .before .before .before .before .before .before .before .before .before .pre in record { first = omega (arith, c .before .before .before .before .before .if1 .left); last = omega (arith, c .before .before .before .if2 .left); fits = omega (arith, c .room-for .ensures h, c .before .nlen-of .ensures, l .exact .bytes) }
+returns-3 c = λ h. record { first = omega (arith, c .before .before .before .before .before .if1 .left); last = omega (arith, c .before .before .before .if2 .left); fits = omega (arith, c .room-for .ensures h, c .before .nlen-of .ensures) }
 
 pub may-rename-spec : {M : Type 1} → statement M
 may-rename-spec =

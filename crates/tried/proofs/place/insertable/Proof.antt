@@ -3,8 +3,6 @@
 use mathlib.Core.Bool.{false≢true}
 use native.Mathlib.Omega.{arith}
 use borrow.Author.Tests.{not-false}
-use Rattle.layout.specs.Store.{lent}
-use Rattle.tried.proofs.Asking.{asks}
 use borrow.Author.Needs.{needs}
 use Rattle.tried.proofs.place.insertable.Statement.{statement}
 use Rattle.tried.proofs.place.insertable.Tie as tie
@@ -28,10 +26,10 @@ add-room-for : tie.Need-add-room-for
 add-room-for c = omega (arith, c .before .before .before .before .before .before .before .before .before .before .before .before .pre .1, c .before .before .if2 .left)
 
 room-for-requires : tie.Need-room-for-requires
-room-for-requires c κs = let b = c .before .before .before .before .before .before .before .before .before .before .before .before in let a = b .args in let st = lent (a .words .now) (a .records .now) (a .heads .now) (a .times .now) (a .paths .now) (a .bytes .now) in asks st (b .pre .0) 0 (omega arith)
+room-for-requires c κs = (c .before .before .before .before .before .before .before .before .before .before .before .before .pre .0, omega arith)
 
 returns-4 : tie.Need-returns-4
-returns-4 c = λ h. let l = c .before .before .before .before .before .before .before .before .before .before .before .before .before .pre .0 in record { more = omega (arith, c .before .before .before .before .if1 .left, l .exact .records); fits = omega (arith, c .room-for .ensures h, l .exact .bytes); holds = c .before .before .may-hold .ensures (not-false (c .before .before .may-hold .result) (c .before .if3 .left)) }
+returns-4 c = λ h. let l = c .before .before .before .before .before .before .before .before .before .before .before .before .before .pre .0 in record { more = omega (arith, c .before .before .before .before .if1 .left, l .exact .records); fits = omega (arith, c .room-for .ensures h); holds = c .before .before .may-hold .ensures (not-false (c .before .before .may-hold .result) (c .before .if3 .left)) }
 
 pub insertable-spec : {M : Type 1} → statement M
 insertable-spec =
