@@ -14,7 +14,7 @@ use lib.Dec.{T, eqb, leb}
 use lib.IntN.{ℤ}
 use lib.ListN.{length, getD}
 use Rattle.text.specs.Utf8.{Bytes}
-use Rattle.model.specs.Tree.{Path, File, Node, dir, file, link, Open, keepIf, look, fileOf, openOf, put, Change, changeMeta, changeFile, setFile}
+use Rattle.model.specs.Tree.{Path, File, Node, dir, file, link, Open, look, fileOf, openOf, put, Change, changeMeta, changeFile, setFile}
 use Rattle.model.specs.Prog.{World, change, withTree, withFiles, changeAt, changeBy, apply}
 use Rattle.model.specs.Calls.{worldOf, stateOf}
 use Rattle.model.specs.Rules.{targetOk}
@@ -24,7 +24,7 @@ use Rattle.model.proofs.OverEdits.{set-here, set-past}
 use Rattle.layout.specs.Fields.{lenOf, kindOf}
 use Rattle.layout.specs.Rows.{Row, nameTotal, pathOf, treeFrom}
 use Rattle.layout.specs.Slots.{total}
-use Rattle.layout.specs.Store.{Store, room, holder, keptLength, live, rowsOf, metaAt, bytesAt, kindAt, nodeBy, nodeAt, opensFrom, state}
+use Rattle.layout.specs.Store.{Store, room, holder, keptLength, live, rowsOf, metaAt, bytesAt, kindAt, nodeBy, nodeAt, state}
 use Rattle.layout.specs.Lawful.{rowsOk, uses, heldFrom, slotBy, slotOk, keptOk, Lawful}
 use Rattle.layout.specs.Alike.{edited, Spells}
 use Rattle.layout.proofs.Walks.{At, look-at, at-uses, at-once}
@@ -32,6 +32,7 @@ use Rattle.layout.proofs.Roots.{all-look}
 use Rattle.layout.proofs.Tables.{fileAt, file-found, openAt, open-there}
 use Rattle.layout.proofs.Slotted.{SlotOf, free, directory, named, removed, target, dir-at, file-at, link-at}
 use Rattle.layout.proofs.Entered.{slot, has-file, stood}
+use Rattle.views.proofs.Numbers.{held-kept, opens-kept}
 use Rattle.views.proofs.Telling.{same-alike}
 use Rattle.views.proofs.Shapes.{lawful-shape}
 use Rattle.changes.specs.Changes.{Changes}
@@ -94,16 +95,6 @@ module _ (c : Change) (st : Store) (hs : List ℕ) (ts : List ℤ) (bs : Bytes) 
         go (yes e) = ap (kindAt u) e ∙ x .kind ∙ ap (kindAt st) (sym e)
         go (no e) = ap kindOf (x .word i e)
 
-    held-same : (n i j : ℕ) → heldFrom u n i j ≡ heldFrom st n i j
-    unfolding heldFrom
-    held-same zero i j = refl
-    held-same (suc n) i j = ap (_||_ (eqb (holder st i) (suc j))) (held-same n (suc i) j)
-
-    opens-same : (n i : ℕ) → opensFrom u n i ≡ opensFrom st n i
-    unfolding opensFrom
-    opens-same zero i = refl
-    opens-same (suc n) i = ap (keepIf (not (eqb (holder st i) 0)) (openAt st i)) (opens-same n (suc i))
-
     -- ---- the rules
 
     self-ok : (kindAt st k ≡ 0 → ⊥) → T (slotOk u k)
@@ -111,12 +102,12 @@ module _ (c : Change) (st : Store) (hs : List ℕ) (ts : List ℤ) (bs : Bytes) 
         let a : T (slotBy (kindAt st k) (getD hs k 0) (uses k (rowsOf st)) (heldFrom st 32 0 k) (bytesAt u k)) =
         slot-kept (kindAt st k) (getD (st .heads) k 0) (getD hs k 0) (uses k (rowsOf st)) (heldFrom st 32 0 k) (bytesAt st k) (bytesAt u k) used (x .plain) (l .slots k hk) in
         let e : slotOk u k ≡ slotBy (kindAt st k) (getD hs k 0) (uses k (rowsOf st)) (heldFrom st 32 0 k) (bytesAt u k) =
-        λ j. slotBy (x .kind j) (getD hs k 0) (uses k (x .rows j)) (held-same 32 0 k j) (bytesAt u k) in
+        λ j. slotBy (x .kind j) (getD hs k 0) (uses k (x .rows j)) (held-kept st u refl 32 0 k j) (bytesAt u k) in
         subst T (sym e) a
 
     other-ok : (i : ℕ) → i < length (st .heads) → (i ≡ k → ⊥) → T (slotOk u i)
     other-ok i h n =
-        let e : slotOk u i ≡ slotOk st i = λ j. slotBy (kinds i j) (x .word i n j) (uses i (x .rows j)) (held-same 32 0 i j) (x .others i n j .bytes) in
+        let e : slotOk u i ≡ slotOk st i = λ j. slotBy (kinds i j) (x .word i n j) (uses i (x .rows j)) (held-kept st u refl 32 0 i j) (x .others i n j .bytes) in
         subst T (sym e) (l .slots i h)
 
     lawful : (kindAt st k ≡ 0 → ⊥) → Lawful u
@@ -183,7 +174,7 @@ module _ (c : Change) (st : Store) (hs : List ℕ) (ts : List ℤ) (bs : Bytes) 
           alike =
               same-alike (state u) (state st) (withFiles (worldOf (state st)) (setFile k c (state st .files))) (lawful-shape u h)
               (λ q. looks q (λ r _. file-same e (r .slot)))
-              (λ n. ap (λ (os : List Open). openOf os n) (opens-same 32 0))
+              (λ n. ap (λ (os : List Open). openOf os n) (opens-kept st u refl refl 32 0))
               (λ i f _ z. set-files i f z)
               refl refl (lawful-shape st l .paths) refl refl;
         }
@@ -212,7 +203,7 @@ module _ (c : Change) (st : Store) (hs : List ℕ) (ts : List ℤ) (bs : Bytes) 
             alike =
                 same-alike (state u) (state st) (withTree (worldOf (state st)) (put p n (state st .tree))) (lawful-shape u h)
                 (λ q. put-looks (omega arith) q ∙ ap (λ (m : Node). look (put p m (state st .tree)) q) g)
-                (λ i. ap (λ (os : List Open). openOf os i) (opens-same 32 0))
+                (λ i. ap (λ (os : List Open). openOf os i) (opens-kept st u refl refl 32 0))
                 (λ i f _ w. let y = file-here i f w in has-file st l i (y .1) (y .2) ∙ ap some (sym (x .others i (λ d. e (ap (kindAt st) (sym d) ∙ y .2))) ∙ sym (y .0)))
                 refl refl (apart-put p n (state st .tree) (lawful-shape st l .paths)) refl refl;
           }

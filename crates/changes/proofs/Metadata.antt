@@ -18,7 +18,8 @@ use Rattle.layout.specs.Store.{Store, metaAt, bytesAt}
 use Rattle.layout.specs.Lawful.{Lawful}
 use Rattle.slots.proofs.Contents.{total-same, contents-same}
 use Rattle.changes.specs.Changes.{Changes}
-use Rattle.changes.specs.Times.{modifiedSet, timesSet, setIf, someSet}
+use Rattle.slots.specs.Times.{timesSet}
+use Rattle.changes.specs.Times.{modifiedSet, setIf, someSet}
 use Rattle.changes.proofs.Altering.{slotted, altered-changes}
 use Rattle.changes.proofs.Timing.{metaBy, withAccessed, withChanged, withCreated, withModified, meta-past, meta-accessed, meta-changed, meta-created, meta-modified}
 

@@ -10,10 +10,6 @@ use lib.ListN.{set}
 abbrev pub modifiedSet : List ℤ → ℕ → ℤ → List ℤ
 modifiedSet ts k t = set ts (4 * k + 3) t
 
--- all four of slot k
-abbrev pub timesSet : List ℤ → ℕ → ℤ → ℤ → List ℤ
-timesSet ts k a t = set (set (set (set ts (4 * k) a) (4 * k + 1) a) (4 * k + 2) a) (4 * k + 3) t
-
 -- a time that is stored, or not
 abbrev pub setIf : Bool → List ℤ → ℕ → ℤ → List ℤ
 setIf b ts i t = cond b (set ts i t) ts

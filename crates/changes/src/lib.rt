@@ -9,7 +9,7 @@ ghost use Rattle.model.specs.Calls.{timeIf};
 ghost use Rattle.model.specs.Tree.{write, resize, chmod, touch, touchSome};
 ghost use Rattle.slots.specs.Put.{fitted};
 ghost use Rattle.changes.specs.Changes.{Changes, Room};
-ghost use Rattle.changes.specs.Times.{timesSet, setIf};
+ghost use Rattle.changes.specs.Times.{setIf};
 
 // The mode stands in the word above the kind and the length.
 fn put_mode(heads: &mut [u64], slot: usize, m: u32)
@@ -37,18 +37,6 @@ pub fn set_mode(
     put_mode(heads, slot, m);
 }
 
-// All four times of the slot.
-fn put_times(times: &mut [i64], slot: usize, a: i64, t: i64)
-    requires { ⌜ 4 * slot + 3 < length (now times) ⌝ }
-    ensures { λ _. ⌜ now (times .exit) ≡ timesSet (now (times .entry)) slot a t ⌝ }
-{
-    let i = 4 * slot;
-    times[i] = a;
-    times[i + 1] = a;
-    times[i + 2] = a;
-    times[i + 3] = t;
-}
-
 // The first time for accessed, changed and created, the second for modified.
 pub fn set_times(
     words: &[u64],
@@ -64,7 +52,7 @@ pub fn set_times(
     requires { ⌜ Lawful (lent (now words) (now records) (now heads) (now times) (now paths) (now bytes)) × (slot < length (now heads)) ⌝ }
     ensures { λ _. ⌜ Changes (touch a t) (lent (now (words .entry)) (now (records .entry)) (now (heads .entry)) (now (times .entry)) (now (paths .entry)) (now (bytes .entry))) (lent (now (words .entry)) (now (records .entry)) (now (heads .entry)) (now (times .exit)) (now (paths .entry)) (now (bytes .entry))) slot ⌝ }
 {
-    put_times(times, slot, a, t);
+    slots::put_times(times, slot, a, t);
 }
 
 // A time that is stored only if it is given.

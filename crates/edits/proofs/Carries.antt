@@ -4,7 +4,7 @@
 use mathlib.Core.List.{List, [], _∷_, _++_}
 use mathlib.Core.Option.{none, some}
 use mathlib.Core.Path.{_≡_, refl, sym, ap, _∙_, subst}
-use Prim.Native.Nat.{ℕ, zero, suc, _*_, _<_}
+use Prim.Native.Nat.{ℕ, _*_, _<_}
 use native.Mathlib.Omega.{arith}
 use lib.Dec.{T}
 use lib.ListN.{length, getD}
@@ -17,14 +17,15 @@ use Rattle.model.specs.Rules.{nameOk}
 use Rattle.model.proofs.Entries.{apart-cut, apart-under, apart-give}
 use Rattle.layout.specs.Fields.{kindOf}
 use Rattle.layout.specs.Rows.{Row, pathOf, treeFrom}
-use Rattle.layout.specs.Store.{Store, most, room, slotsFor, rowsOf, metaAt, bytesAt, kindAt, nodeAt, opensFrom, state}
-use Rattle.layout.specs.Lawful.{rowsOk, uses, heldFrom, slotOk, Lawful}
+use Rattle.layout.specs.Store.{Store, most, room, slotsFor, rowsOf, metaAt, bytesAt, kindAt, nodeAt, state}
+use Rattle.layout.specs.Lawful.{rowsOk, uses, slotOk, Lawful}
 use Rattle.layout.specs.Alike.{moved, Spells}
 use Rattle.layout.proofs.Roots.{all-slots}
 use Rattle.layout.proofs.Tables.{file-found, file-there}
 use Rattle.layout.proofs.Walks.{SlotsIn}
 use Rattle.views.specs.Parts.{pathAfter, Gap, Deeper, NotDeeper}
 use Rattle.views.proofs.Carrying.{rows-carried, uses-carried, look-carried}
+use Rattle.views.proofs.Numbers.{held-kept, opens-kept}
 use Rattle.views.proofs.Parted.{rows-slots, tree-slots}
 use Rattle.views.proofs.Shapes.{lawful-shape}
 use Rattle.views.proofs.Telling.{same-alike}
@@ -54,16 +55,6 @@ module _ (st st′ : Store) (root : Row) (a : List Row) (row : Row) (x b a₂ b�
   same-node : (k : ℕ) → nodeAt st′ k ≡ nodeAt st k
   same-node k = node-same k (sym (same-kind k)) (same-meta k) (same-bytes k)
 
-  same-opens : (i k : ℕ) → opensFrom st′ i k ≡ opensFrom st i k
-  unfolding opensFrom
-  same-opens zero k = refl
-  same-opens (suc i) k = rw (same-opens i (suc k), g .words, g .paths) refl
-
-  same-held : (i j k : ℕ) → heldFrom st′ i j k ≡ heldFrom st i j k
-  unfolding heldFrom
-  same-held zero j k = refl
-  same-held (suc i) j k = rw (same-held i (suc j) k, g .words) refl
-
   same-file : (i : ℕ) (f : File) → fileOf (state st′ .files) i ≡ some f → fileOf (state st .files) i ≡ some f
   same-file i f e =
       let h = file-found st′ (length (st′ .heads)) 0 i f e in
@@ -73,7 +64,7 @@ module _ (st st′ : Store) (root : Row) (a : List Row) (row : Row) (x b a₂ b�
   slots-ok : (k : ℕ) → k < n → T (slotOk st′ k)
   slots-ok k h =
       let u : uses k (rowsOf st′) ≡ uses k (rowsOf st) = ap (uses k) (g .new) ∙ (uses-carried (kindAt st) n root a row x b rows dx nb a₂ b₂ (g .parts) q y p k ∙ ap (uses k) (sym (g .old))) in
-      subst T (sym (slot-same (sym (same-kind k)) (ap (λ (hs : List ℕ). getD hs k 0) (g .heads)) u (same-held 32 0 k) (same-bytes k))) (l .slots k h)
+      subst T (sym (slot-same (sym (same-kind k)) (ap (λ (hs : List ℕ). getD hs k 0) (g .heads)) u (held-kept st st′ (g .words) 32 0 k) (same-bytes k))) (l .slots k h)
 
   slot-low : row .slot < n
   slot-low = go a (all-slots (kindAt st) n (root ∷ (a ++ (row ∷ (x ++ b)))) rows .1)
@@ -142,7 +133,7 @@ module _ (st st′ : Store) (root : Row) (a : List Row) (row : Row) (x b a₂ b�
         alike =
             same-alike (state st′) was (apply (give to) (apply (take from) (worldOf was))) (lawful-shape st′ carried-lawful)
             (look-same clear)
-            (λ i. ap (λ (o : List Open). openOf o i) (same-opens 32 0))
+            (λ i. ap (λ (o : List Open). openOf o i) (opens-kept st st′ (g .words) (g .paths) 32 0))
             (λ i f _ e. same-file i f e)
             (rw (g .words, g .paths) refl)
             (rw (g .words) refl)

@@ -3,14 +3,15 @@
 use mathlib.Core.Bool.{not}
 use mathlib.Core.List.{List}
 use mathlib.Core.Path.{_≡_, refl, ap, _∙_}
-use Prim.Native.Nat.{ℕ, zero, suc, _+_, _*_, _<_}
+use Prim.Native.Nat.{ℕ, suc, _+_, _*_, _<_}
 use native.Mathlib.Omega.{arith}
-use lib.Dec.{T}
+use lib.Dec.{T, eqb}
 use lib.ListN.{length, getD}
 use lib.Seq.{getD-set-same, getD-set-other}
 use Rattle.path.specs.Path.{names}
 use Rattle.layout.specs.Store.{Store, most, room, count, mask, hereLength, holder, position, keptLength, cell, opensFrom}
 use Rattle.layout.specs.Lawful.{heldFrom, keptOk, numberOk}
+use Rattle.views.proofs.Numbers.{held-same, opens-same}
 use Rattle.edits.specs.Growth.{Recounted}
 
 module _ (st st′ : Store) (c : ℕ) (r : Recounted st st′ c) where
@@ -43,14 +44,10 @@ module _ (st st′ : Store) (c : ℕ) (r : Recounted st st′ c) where
   new-count h = ap (λ (ws : List ℕ). getD ws 2 0) (r .words) ∙ getD-set-same (st .words) 2 c 0 h
 
   pub same-opens : (n k : ℕ) → opensFrom st′ n k ≡ opensFrom st n k
-  unfolding opensFrom
-  same-opens zero k = refl
-  same-opens (suc n) k = rw (same-opens n (suc k), same-holder k, same-position k, same-kept k, r .paths) refl
+  same-opens = opens-same st st′ same-holder same-position same-kept (r .paths)
 
   pub same-held : (n i k : ℕ) → heldFrom st′ n i k ≡ heldFrom st n i k
-  unfolding heldFrom
-  same-held zero i k = refl
-  same-held (suc n) i k = rw (same-held n (suc i) k, same-holder i) refl
+  same-held n i k = held-same st st′ k (λ j. ap (λ (h : ℕ). eqb h (suc k)) (same-holder j)) n i
 
   pub same-here : names (cell st′ 0 (hereLength st′)) ≡ names (cell st 0 (hereLength st))
   same-here = rw (same-here-length, r .paths) refl

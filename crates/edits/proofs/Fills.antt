@@ -12,7 +12,8 @@ use Rattle.layout.specs.Fields.{lenOf, headWord}
 use Rattle.layout.specs.Slots.{total}
 use Rattle.slots.specs.Put.{withLen, Put}
 use Rattle.slots.proofs.Contents.{total-same, contents-same}
-use Rattle.edits.specs.Filling.{timed, Filled}
+use Rattle.slots.specs.Times.{timesSet}
+use Rattle.edits.specs.Filling.{Filled}
 
 empty-head : (k m : ℕ) → lenOf (headWord 0 k m) ≡ 0
 empty-head k m = omega arith
@@ -42,7 +43,7 @@ module _ (hs : List ℕ) (s k m h : ℕ) (e : h ≡ headWord 0 k m) (f : getD hs
   may-write bs n a r =
       (rw (length-set hs s h) w, omega arith, omega (arith, first-total), omega (arith, first-total))
 
-  pub filled : (ts : List ℤ) (bs : Bytes) (hs′ : List ℕ) (ts′ : List ℤ) (bs′ : Bytes) (t : ℤ) (c : Bytes) → ts′ ≡ timed ts s t → Put first bs hs′ bs′ s (length c) c
+  pub filled : (ts : List ℤ) (bs : Bytes) (hs′ : List ℕ) (ts′ : List ℤ) (bs′ : Bytes) (t : ℤ) (c : Bytes) → ts′ ≡ timesSet ts s t t → Put first bs hs′ bs′ s (length c) c
       → Filled hs ts bs hs′ ts′ bs′ s k m t c
   filled ts bs hs′ ts′ bs′ t c y p =
       record {

@@ -27,7 +27,8 @@ use Rattle.layout.proofs.Named.{length-rows}
 use Rattle.records.proofs.Entries.{rows-front}
 use Rattle.layout.proofs.Worded.{record-depth, record-name, record-slot, head-length, head-kind, head-mode}
 use Rattle.views.specs.Parts.{pathAfter}
-use Rattle.edits.specs.Filling.{timed, Filled}
+use Rattle.slots.specs.Times.{timesSet}
+use Rattle.edits.specs.Filling.{Filled}
 use Rattle.edits.specs.Growth.{newRow, Timed, Grown}
 use Rattle.edits.specs.Insertion.{Vacancy, Holds, Insertable, insertion}
 use Rattle.edits.proofs.Grows.{grown-dir, grown-file, grown-link}
@@ -74,19 +75,19 @@ module _ (ts : List ℤ) (s : ℕ) (t : ℤ) (h : 4 * s + 4 ≤ length ts) where
   long₃ : length t₃ ≡ length ts
   long₃ = length-set t₂ (4 * s + 2) t ∙ long₂
 
-  pub timed-long : length (timed ts s t) ≡ length ts
+  pub timed-long : length (timesSet ts s t t) ≡ length ts
   timed-long = length-set t₃ (4 * s + 3) t ∙ long₃
 
   -- a time of another slot
-  pub timed-other : (i : ℕ) → ((j : ℕ) → j < 4 → i ≡ 4 * s + j → ⊥) → getD (timed ts s t) i (pos 0) ≡ getD ts i (pos 0)
+  pub timed-other : (i : ℕ) → ((j : ℕ) → j < 4 → i ≡ 4 * s + j → ⊥) → getD (timesSet ts s t t) i (pos 0) ≡ getD ts i (pos 0)
   timed-other i apart =
       getD-set-other t₃ (4 * s + 3) i t (pos 0) (apart 3 (omega arith))
       ∙ (getD-set-other t₂ (4 * s + 2) i t (pos 0) (apart 2 (omega arith))
       ∙ (getD-set-other t₁ (4 * s + 1) i t (pos 0) (apart 1 (omega arith)) ∙ getD-set-other ts (4 * s) i t (pos 0) (λ e. apart 0 (omega arith) (e ∙ omega arith))))
 
   -- one of its own
-  pub timed-here : (i : ℕ) → i < 4 → getD (timed ts s t) (4 * s + i) (pos 0) ≡ t
-  timed-here zero j = ap (λ (k : ℕ). getD (timed ts s t) k (pos 0)) (add-zero (4 * s)) ∙ (getD-set-other t₃ (4 * s + 3) (4 * s) t (pos 0) (λ e. omega arith) ∙ (getD-set-other t₂ (4 * s + 2) (4 * s) t (pos 0) (λ e. omega arith) ∙ (getD-set-other t₁ (4 * s + 1) (4 * s) t (pos 0) (λ e. omega arith) ∙ getD-set-same ts (4 * s) t (pos 0) (omega arith))))
+  pub timed-here : (i : ℕ) → i < 4 → getD (timesSet ts s t t) (4 * s + i) (pos 0) ≡ t
+  timed-here zero j = ap (λ (k : ℕ). getD (timesSet ts s t t) k (pos 0)) (add-zero (4 * s)) ∙ (getD-set-other t₃ (4 * s + 3) (4 * s) t (pos 0) (λ e. omega arith) ∙ (getD-set-other t₂ (4 * s + 2) (4 * s) t (pos 0) (λ e. omega arith) ∙ (getD-set-other t₁ (4 * s + 1) (4 * s) t (pos 0) (λ e. omega arith) ∙ getD-set-same ts (4 * s) t (pos 0) (omega arith))))
   timed-here (suc zero) j = getD-set-other t₃ (4 * s + 3) (4 * s + 1) t (pos 0) (λ e. omega arith) ∙ (getD-set-other t₂ (4 * s + 2) (4 * s + 1) t (pos 0) (λ e. omega arith) ∙ getD-set-same t₁ (4 * s + 1) t (pos 0) (omega (arith, long₁)))
   timed-here (suc (suc zero)) j = getD-set-other t₃ (4 * s + 3) (4 * s + 2) t (pos 0) (λ e. omega arith) ∙ getD-set-same t₂ (4 * s + 2) t (pos 0) (omega (arith, long₂))
   timed-here (suc (suc (suc zero))) j = getD-set-same t₃ (4 * s + 3) t (pos 0) (omega (arith, long₃))

@@ -12,9 +12,9 @@ use native.Mathlib.Omega.{arith}
 use lib.Dec.{T, eqb, leb}
 use lib.ListN.{length, length-append, take, drop, take-append-drop}
 use lib.Seq.{take-append-le, drop-append-le, take-append-add, drop-append-add, take-take, take-length, length-take-le}
-use borrow.Author.Tests.{eq-eqb, leb-true, leb-false}
+use borrow.Author.Tests.{leb-true, leb-false}
 use Rattle.path.specs.Path.{Name}
-use Rattle.path.proofs.Laws.{and-left, and-right}
+use Rattle.path.proofs.Laws.{and-left}
 use Rattle.model.specs.Tree.{Path, Node, look, behind}
 use Rattle.model.specs.Rules.{nameOk}
 use Rattle.model.proofs.Entries.{cut-in}
@@ -27,7 +27,7 @@ use Rattle.layout.proofs.Walks.{rest-ok}
 use Rattle.views.specs.Parts.{pathAfter, dirAfter, Behind, Gap, Deeper, NotDeeper}
 use Rattle.views.proofs.Blocked.{at-path, behind-start, behind-stand}
 use Rattle.views.proofs.Inserting.{new-length, new-path, rows-new}
-use Rattle.views.proofs.Parted.{walk-both, after-both, SameStart, MayStand}
+use Rattle.views.proofs.Parted.{walk-both, walk-second, after-both, SameStart, MayStand}
 use Rattle.views.proofs.Removing.{walk-follows, below-keeps, begins}
 use Rattle.views.proofs.Taking.{one-deep, rows-cut, look-cut, path-long, block-walk}
 use Rattle.edits.specs.Growth.{newRow}
@@ -112,13 +112,8 @@ module _ (kind : ℕ → ℕ) (n : ℕ) where
 
   -- the second part of a walk from the root
   walk-from : (a b : List Row) → (a ≡ [] → ⊥) → T (rowsOk kind n (a ++ b)) → T (walkOk kind n (pathAfter [] a) (dirAfter kind false a) b)
-  unfolding pathAfter dirAfter
   walk-from [] b z t = absurd (z refl)
-  walk-from (r ∷ a) b z t =
-      let o = root-of kind n r (a ++ b) t in
-      let w = and-right (walkOk kind n [] true a) _ (subst T (walk-both kind n [] true a b) (o .rest)) in
-      subst (λ (p : Path). T (walkOk kind n (pathAfter p a) (dirAfter kind (eqb (kind (r .slot)) 1) a) b)) (sym (o .path))
-      (subst (λ (d : Bool). T (walkOk kind n (pathAfter [] a) (dirAfter kind d a) b)) (sym (eq-eqb (kind (r .slot)) 1 (o .isDir))) w)
+  walk-from (r ∷ a) b z t = walk-second kind n r a b t
 
 -- ---- a gap
 

@@ -5,20 +5,8 @@ ghost use lib.ListN.{length, getD};
 ghost use Rattle.layout.specs.Slots.{total};
 ghost use Rattle.slots.specs.Free.{freeFrom};
 ghost use Rattle.slots.specs.declared.Slot.the-variants.{Full};
-ghost use Rattle.edits.specs.Filling.{timed, Filled};
+ghost use Rattle.edits.specs.Filling.{Filled};
 use slots::Slot;
-
-// A new entry has one time for all four.
-fn put_times(times: &mut [i64], s: usize, t: i64)
-    requires { ⌜ (s < 4128) × (4 * s + 4 ≤ length (now times)) ⌝ }
-    ensures { λ _. ⌜ now (times .exit) ≡ timed (now (times .entry)) s t ⌝ }
-{
-    let i = 4 * s;
-    times[i] = t;
-    times[i + 1] = t;
-    times[i + 2] = t;
-    times[i + 3] = t;
-}
 
 // The lowest free slot, where there is one.
 pub fn vacant_slot(heads: &[u64]) -> usize
@@ -31,6 +19,7 @@ pub fn vacant_slot(heads: &[u64]) -> usize
     }
 }
 
+// A free slot becomes a new entry's, which has one time for all four.
 pub fn fill_slot(
     heads: &mut [u64],
     times: &mut [i64],
@@ -45,6 +34,6 @@ pub fn fill_slot(
     ensures { λ _. ⌜ Filled (now (heads .entry)) (now (times .entry)) (now (bytes .entry)) (now (heads .exit)) (now (times .exit)) (now (bytes .exit)) s kind mode t (now (text .entry)) ⌝ }
 {
     heads[s] = layout::head_word(0, kind, mode);
-    put_times(times, s, t);
+    slots::put_times(times, s, t, t);
     slots::write(heads, bytes, s, text);
 }

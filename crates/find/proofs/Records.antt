@@ -2,7 +2,7 @@
 -- path. So the path of a record has as many names as the record says, a look finds its slot there, and whatever a look finds is the
 -- entry of a record.
 -- Assumes nothing.
-use mathlib.Core.Bool.{Bool, true, false}
+use mathlib.Core.Bool.{false}
 use mathlib.Core.List.{List, [], _∷_, _++_}
 use mathlib.Core.Logic.{inl, inr}
 use mathlib.Core.Option.{some}
@@ -13,8 +13,7 @@ use native.Mathlib.Omega.{arith}
 use lib.Dec.{T, eqb}
 use lib.ListN.{length, take, drop, getD, take-append-drop}
 use lib.Seq.{drop-drop, take-add, getD-take, take-take}
-use borrow.Author.Tests.{eq-eqb}
-use Rattle.path.proofs.Laws.{and-left, and-right}
+use Rattle.path.proofs.Laws.{and-left}
 use Rattle.model.specs.Tree.{Path, Node, file, look}
 use Rattle.layout.specs.Fields.{depthOf}
 use Rattle.layout.specs.Rows.{Row, nameTotal, rows, pathBy, pathOf, treeFrom}
@@ -24,10 +23,10 @@ use Rattle.layout.specs.Alike.{HasSlot}
 use Rattle.layout.proofs.Named.{length-rows, rows-drop}
 use Rattle.layout.proofs.Rising.{Rises, follows-by, next-length}
 use Rattle.layout.proofs.Walks.{At, look-at, at-slot, at-rises}
-use Rattle.layout.proofs.Roots.{root-of, all-slots, all-look}
+use Rattle.layout.proofs.Roots.{all-slots, all-look}
 use Rattle.layout.proofs.Used.{live-length}
 use Rattle.views.specs.Parts.{pathAfter, dirAfter}
-use Rattle.views.proofs.Parted.{walk-both, after-both, dir-both}
+use Rattle.views.proofs.Parted.{walk-second, after-both, dir-both}
 use Rattle.views.proofs.Inserting.{root-is}
 use Rattle.views.proofs.Removing.{walk-follows}
 use Rattle.views.proofs.Blocked.{at-seam}
@@ -40,13 +39,9 @@ use Rattle.find.proofs.Reading.{from-at}
 module _ (kind : ℕ → ℕ) (n : ℕ) where
   -- what stands behind entry i is a walk
   walk-from : (rs : List Row) → T (rowsOk kind n rs) → (i : ℕ) → T (walkOk kind n (pathAfter [] (take (suc i) rs)) (dirAfter kind false (take (suc i) rs)) (drop (suc i) rs))
-  unfolding walkOk pathAfter dirAfter
+  unfolding walkOk
   walk-from [] t i = tt
-  walk-from (r ∷ rs) t i =
-      let o = root-of kind n r rs t in
-      let w = and-right (walkOk kind n [] true (take i rs)) _ (subst T (ap (walkOk kind n [] true) (sym (take-append-drop i rs)) ∙ walk-both kind n [] true (take i rs) (drop i rs)) (o .rest)) in
-      subst (λ (p : Path). T (walkOk kind n (pathAfter p (take i rs)) (dirAfter kind (eqb (kind (r .slot)) 1) (take i rs)) (drop i rs))) (sym (o .path))
-      (subst (λ (d : Bool). T (walkOk kind n (pathAfter [] (take i rs)) (dirAfter kind d (take i rs)) (drop i rs))) (sym (eq-eqb (kind (r .slot)) 1 (o .isDir))) w)
+  walk-from (r ∷ rs) t i = walk-second kind n r (take i rs) (drop i rs) (subst (λ (s : List Row). T (rowsOk kind n (r ∷ s))) (sym (take-append-drop i rs)) t)
 
 -- the place of an entry
 pub record Index (p : Path) (rs : List Row) (q : Path) (r : Row) : Type 0 where

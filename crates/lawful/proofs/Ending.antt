@@ -18,7 +18,7 @@ use Rattle.layout.specs.Fields.{slotOf, nlenOf, lenOf, kindOf}
 use Rattle.layout.specs.Rows.{rows, pathOf}
 use Rattle.layout.specs.Slots.{total, split, start, contents}
 use Rattle.layout.specs.Lawful.{follows, entryOk, walkOk, rootOk, rowsOk, slotBy}
-use Rattle.marks.specs.Settles.{Settles}
+use Rattle.limits.specs.Settles.{Settles}
 use Rattle.marks.specs.Uses.{usesIn, standsFrom, Within}
 use Rattle.marks.proofs.ByKind.{settle}
 use Rattle.marks.proofs.Taking.{uses-at, uses-none, stands-at}

@@ -19,7 +19,7 @@ use Rattle.layout.specs.Fields.{slotOf, nlenOf, lenOf, kindOf}
 use Rattle.layout.specs.Rows.{rows, pathOf}
 use Rattle.layout.specs.Slots.{contents}
 use Rattle.layout.specs.Lawful.{follows, entryOk, walkOk, rootOk, rowsOk, slotBy}
-use Rattle.marks.specs.Settles.{Settles}
+use Rattle.limits.specs.Settles.{Settles}
 use Rattle.marks.specs.Uses.{usesIn, standsFrom, Within, Standing, SlotsRight}
 use Rattle.entries.specs.Fits.{rowAt}
 use Rattle.lawful.specs.Parts.{keptIn, numberIn, Kept, linkBy, LinksRight, SlotsHeld}

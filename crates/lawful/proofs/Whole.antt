@@ -5,20 +5,20 @@ use mathlib.Core.List.{List}
 use mathlib.Core.Path.{_≡_, refl, sym, ap, _∙_, subst}
 use Prim.Native.Nat.{ℕ, zero, suc, _+_, _*_, _≤_, _<_}
 use native.Mathlib.Omega.{arith}
-use lib.Dec.{T, eqb, leb, ltb}
+use lib.Dec.{T, eqb}
 use lib.ListN.{length, take, getD}
 use lib.Seq.{getD-take, length-take-le, take-take}
-use borrow.Author.Tests.{ltb-true, ltb-false, leb-true, leb-false}
 use Rattle.text.specs.Utf8.{Bytes}
 use Rattle.layout.specs.Rows.{rows, nameTotal}
 use Rattle.layout.specs.Slots.{total}
 use Rattle.layout.specs.Store.{Store, most, room, count, live, rowsOf, slotsFor, bytesAt, cut}
 use Rattle.layout.specs.Lawful.{rowsOk, uses, heldFrom, slotBy, Exact, Lawful, Long, Passes}
 use Rattle.marks.proofs.Rowed.{uses-rows}
-use Rattle.marks.specs.Settles.{Settles}
+use Rattle.limits.specs.Settles.{Settles}
 use Rattle.marks.specs.Uses.{usesIn, standsFrom}
 use Rattle.entries.specs.Fits.{kindIn}
-use Rattle.lawful.specs.Parts.{Limits, Lengths, Kept, SlotsHeld, Parts}
+use Rattle.limits.specs.Limits.{Limits, Lengths}
+use Rattle.lawful.specs.Parts.{Kept, SlotsHeld, Parts}
 
 -- ---- the parts
 
@@ -117,24 +117,3 @@ module _ (st : Store) where
     pub pass-parts : (r : Bool) → Settles r PartsOf → Settles r (Passes st)
     pass-parts true p = (long, lawful p)
     pass-parts false n = λ p. n (parts (p .1))
-
--- ---- answers
-
--- the answer is known
-pub told : (P : Type 0) {r t : Bool} → r ≡ t → Settles r P → Settles t P
-told P e s = subst (λ (x : Bool). Settles x P) e s
-
--- a comparison decides
-pub settle-lt : (a b : ℕ) (P : Type 0) → (a < b → P) → (P → a < b) → Settles (ltb a b) P
-settle-lt a b P f g = go (ltb a b) refl
-  where
-    go : (t : Bool) → ltb a b ≡ t → Settles t P
-    go true e = f (ltb-true a b e)
-    go false e = λ p. omega (arith, g p, ltb-false a b e)
-
-pub settle-le : (a b : ℕ) (P : Type 0) → (a ≤ b → P) → (P → a ≤ b) → Settles (leb a b) P
-settle-le a b P f g = go (leb a b) refl
-  where
-    go : (t : Bool) → leb a b ≡ t → Settles t P
-    go true e = f (leb-true a b e)
-    go false e = λ p. omega (arith, g p, leb-false a b e)

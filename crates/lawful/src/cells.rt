@@ -4,7 +4,7 @@ ghost use Prim.Native.Nat.{ℕ, _≤_, _<_};
 ghost use lib.Dec.{T};
 ghost use lib.ListN.{length};
 ghost use Rattle.layout.specs.Lawful.{cellOk};
-ghost use Rattle.marks.specs.Settles.{Settles};
+ghost use Rattle.limits.specs.Settles.{Settles};
 ghost use Rattle.lawful.specs.Parts.{pieceOk, keptIn, numberIn, Kept};
 use path::pieces::kind_of;
 use path::pieces::piece_start;

@@ -5,7 +5,7 @@ ghost use lib.ListN.{length, drop};
 ghost use Rattle.model.specs.Rules.{targetOk};
 ghost use Rattle.layout.specs.Rows.{nameTotal};
 ghost use Rattle.layout.specs.Slots.{total};
-ghost use Rattle.marks.specs.Settles.{Settles};
+ghost use Rattle.limits.specs.Settles.{Settles};
 ghost use Rattle.marks.specs.Uses.{Within, Standing};
 ghost use Rattle.lawful.specs.Parts.{LinksRight, NextLink, SlotsHeld};
 use path::lengths::lengths_ok;

@@ -2,12 +2,11 @@
 ghost use Prim.Native.Nat.{_≤_};
 ghost use lib.ListN.{length};
 ghost use Rattle.layout.specs.Lawful.{Passes};
-ghost use Rattle.marks.specs.Settles.{Settles};
+ghost use Rattle.limits.specs.Settles.{Settles};
 ghost use Rattle.lawful.specs.Parts.{Parts};
 
 pub mod cells;
 pub mod held;
-mod limits;
 mod unused;
 
 // Whether slices obey the rules. `recs` has the records of the entries and no more.

@@ -13,7 +13,7 @@ use Rattle.path.proofs.Laws.{and-left, and-right, and-both}
 use Rattle.model.specs.Rules.{targetOk}
 use Rattle.layout.specs.Fields.{lenOf, kindOf}
 use Rattle.layout.specs.Lawful.{slotBy}
-use Rattle.marks.specs.Settles.{Settles}
+use Rattle.limits.specs.Settles.{Settles}
 use Rattle.marks.specs.Uses.{entryBy, entryWord}
 
 -- a slot that is named twice is wrong

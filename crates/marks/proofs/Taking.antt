@@ -12,7 +12,7 @@ use lib.Seq.{getD-set-same, getD-set-other}
 use borrow.Author.Tests.{eq-eqb, ne-eqb, eqb-true, eqb-false, ltb-true, ltb-false}
 use Rattle.layout.specs.Fields.{slotOf, kindOf}
 use Rattle.layout.specs.Lawful.{slotBy}
-use Rattle.marks.specs.Settles.{Settles}
+use Rattle.limits.specs.Settles.{Settles}
 use Rattle.marks.specs.Uses.{usesIn, standsFrom, Within, SlotsRight, filled, entryBy, entryWord, Named, NamedBy, Opened, OpenedBy}
 use Rattle.marks.proofs.ByKind.{twice-wrong, word-wrong, number-wrong, slot-used, slot-right}
 use Rattle.marks.proofs.Counting.{uses-more, uses-most, Said, said-more, said-twice, stands-next}

@@ -4,7 +4,7 @@ ghost use mathlib.Core.Bool.{cond};
 ghost use mathlib.Core.Path.{_≡_};
 ghost use Prim.Native.Nat.{ℕ, _+_, _≤_};
 ghost use lib.ListN.{length, getD};
-ghost use Rattle.marks.specs.Settles.{Settles};
+ghost use Rattle.limits.specs.Settles.{Settles};
 ghost use Rattle.marks.specs.Uses.{standsFrom, Within, Standing, MarkedBy, SlotsRight};
 use crate::taken::in_use;
 use crate::taken::take_named;

@@ -16,8 +16,8 @@ use Rattle.text.specs.Utf8.{Bytes}
 use Rattle.path.specs.Path.{Name, cut, pieces, body}
 use Rattle.path.specs.Backward.{Sifted, kindOf, mk, siftOne, sift, sifted, front, part}
 use Rattle.path.specs.Answer.{AllNames, Clean, EndIs, PieceIs, PlainIs}
-use Rattle.path.specs.declared.plain.Plain.{Plain}
-use Rattle.path.specs.declared.plain.Plain.the-variants.{From}
+use Rattle.path.specs.declared.answer.Plain.{Plain}
+use Rattle.path.specs.declared.answer.Plain.the-variants.{From}
 use Rattle.path.proofs.Cutting.{first, front-part, part-empty, part-cons, part-length, piece-is}
 use Rattle.path.proofs.Dots.{kind-none, kind-other}
 use Rattle.path.proofs.Dropping.{body-pieces}

@@ -17,8 +17,8 @@ use Rattle.text.specs.Utf8.{Bytes}
 use Rattle.path.specs.Path.{Name, same, cut, pieces, dot, vanishes, isUp, keep, names, body}
 use Rattle.path.specs.Backward.{Sifted, kindBy, kindOf, mk, siftOne, sift, sifted, front, part}
 use Rattle.path.specs.Answer.{Clean, WholeIs, NextIs}
-use Rattle.path.specs.declared.forward.Next.{Next}
-use Rattle.path.specs.declared.forward.Next.the-variants.{Vanishes, Stays}
+use Rattle.path.specs.declared.answer.Next.{Next}
+use Rattle.path.specs.declared.answer.Next.the-variants.{Vanishes, Stays}
 use Rattle.path.proofs.Cutting.{NoSlash, part-empty, part-cons, part-length, piece-is}
 use Rattle.path.proofs.Every.{Every}
 use Rattle.path.proofs.Reading.{body-append, raw-sifted}

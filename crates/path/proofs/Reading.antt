@@ -14,8 +14,8 @@ use Rattle.text.specs.Utf8.{Bytes}
 use Rattle.path.specs.Path.{Name, pieces, vanishes, isUp, keep, names, norm, body}
 use Rattle.path.specs.Backward.{kindBy, kindOf, Sifted, mk, keepOne, siftOne, sift, sifted, front, part, dropN}
 use Rattle.path.specs.Answer.{PieceIs, BackIs}
-use Rattle.path.specs.declared.sifting.Back.{Back}
-use Rattle.path.specs.declared.sifting.Back.the-variants.{Gone, Keeps}
+use Rattle.path.specs.declared.answer.Back.{Back}
+use Rattle.path.specs.declared.answer.Back.the-variants.{Gone, Keeps}
 
 -- ---- sift
 

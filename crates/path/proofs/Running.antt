@@ -13,7 +13,7 @@ use Rattle.text.specs.Utf8.{Bytes}
 use Rattle.path.specs.Path.{Name, pieces}
 use Rattle.path.specs.Backward.{Sifted, mk, sift, front, part}
 use Rattle.path.specs.Answer.{AllNames, Clean, RunIs, BackIs}
-use Rattle.path.specs.declared.sifting.Back.the-variants.{Keeps}
+use Rattle.path.specs.declared.answer.Back.the-variants.{Keeps}
 use Rattle.path.proofs.Cutting.{front-part, part-cut}
 use Rattle.path.proofs.Following.{clean-names}
 use Rattle.path.proofs.Reading.{sift-append, sift-passive, Read, read-kept}

@@ -16,12 +16,12 @@ use Rattle.path.specs.declared.answer.Last.{Last}
 use Rattle.path.specs.declared.answer.Last.the-variants.{At, Left}
 use Rattle.path.specs.declared.answer.Place.{Place}
 use Rattle.path.specs.declared.answer.Place.the-variants.{InPath, InCwd, Nowhere}
-use Rattle.path.specs.declared.forward.Next.{Next}
-use Rattle.path.specs.declared.forward.Next.the-variants.{Vanishes, Stays}
-use Rattle.path.specs.declared.plain.Plain.{Plain}
-use Rattle.path.specs.declared.plain.Plain.the-variants.{From, No}
-use Rattle.path.specs.declared.sifting.Back.{Back}
-use Rattle.path.specs.declared.sifting.Back.the-variants.{Gone, Keeps}
+use Rattle.path.specs.declared.answer.Next.{Next}
+use Rattle.path.specs.declared.answer.Next.the-variants.{Vanishes, Stays}
+use Rattle.path.specs.declared.answer.Plain.{Plain}
+use Rattle.path.specs.declared.answer.Plain.the-variants.{From, No}
+use Rattle.path.specs.declared.answer.Back.{Back}
+use Rattle.path.specs.declared.answer.Back.the-variants.{Gone, Keeps}
 
 -- the first, or the second
 abbrev pub pick : Bool → Formed → Formed → Formed

@@ -1,5 +1,4 @@
-// What the functions of this crate answer.
-use crate::plain::Plain;
+// What the functions over paths answer.
 
 // A path of at most 1,024 bytes stands in the buffer: its length. Or refusal 6.
 pub enum Formed {
@@ -11,6 +10,13 @@ pub enum Formed {
 pub enum Last {
     At(usize, usize),
     Left(usize),
+}
+
+// From: the pieces between these two places are all names, and beside them stand at most a slash in front and one at the
+// end. No: perhaps not.
+pub enum Plain {
+    From(usize, usize),
+    No,
 }
 
 // What a text keeps: the length of the kept names, a slash before each, how many names before the text are dropped, and
@@ -27,4 +33,20 @@ pub enum Place {
     InPath(usize, usize),
     InCwd(usize, usize),
     Nowhere,
+}
+
+// The next piece.
+pub enum Next {
+    // It vanishes, as the empty one and `.` do, and ends here.
+    Vanishes(usize),
+    // It is a name.
+    Stays,
+}
+
+// One piece, read from the end of what is left.
+pub enum Back {
+    // No name is kept: what is left ends at the first number, and the second counts the names that are still dropped.
+    Gone(usize, usize),
+    // The name from this place to the end is kept.
+    Keeps(usize),
 }

@@ -10,18 +10,18 @@ ghost use Rattle.text.specs.Utf8.{text};
 ghost use Rattle.path.specs.Path.{names, normal, absolute, body, lengthsOk};
 ghost use Rattle.layout.specs.Store.{lent};
 ghost use Rattle.layout.specs.Lawful.{Passes};
-ghost use Rattle.marks.specs.Settles.{Settles};
+ghost use Rattle.limits.specs.Settles.{Settles};
 ghost use Rattle.probe.specs.Numbers.{Answers, LastAt, NameAnswers, FollowAnswers, BehindAnswers, numberOf, whichOf, fromOf, toOf};
+use absolute::last::last_name;
+use absolute::last::last_place;
+use absolute::link::follow;
+use absolute::normalize_path;
+use absolute::raw_path;
+use absolute::to_absolute_path;
 use lawful::store_ok;
-use path::absolute::normalize_path;
-use path::absolute::raw_path;
-use path::absolute::to_absolute_path;
 use path::answer::Formed;
 use path::answer::Place;
-use path::last::last_name;
-use path::last::last_place;
 use path::lengths::lengths_ok;
-use path::link::follow;
 use text::text_ok;
 
 // 0, or refusal 2.

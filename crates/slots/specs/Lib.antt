@@ -1,2 +1,3 @@
 pub mod Free
 pub mod Put
+pub mod Times

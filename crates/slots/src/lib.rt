@@ -1,11 +1,12 @@
-// The words of the slots, and their bytes: these stand at the end of the byte storage, one slot behind the other.
+// The words of the slots, their times, and their bytes: these stand at the end of the byte storage, one slot behind the other.
 ghost use mathlib.Core.Path.{_≡_};
 ghost use mathlib.Core.List.{_++_, []};
-ghost use Prim.Native.Nat.{_+_, _-_, _^_, _<_, _≤_};
+ghost use Prim.Native.Nat.{_+_, _*_, _-_, _^_, _<_, _≤_};
 ghost use lib.ListN.{length, take, drop, getD, set, replicate};
 ghost use Rattle.layout.specs.Fields.{lenOf};
 ghost use Rattle.layout.specs.Slots.{total, contents};
 ghost use Rattle.slots.specs.Free.{freeFrom};
+ghost use Rattle.slots.specs.Times.{timesSet};
 ghost use Rattle.slots.specs.Put.{fitted, swept, sweptC, Put, Freed, Step};
 
 // The length field of a word is its low 24 bits.
@@ -135,4 +136,16 @@ pub fn sweep(heads: &mut [u64], bytes: &mut [u8], marks: &[u8])
         src -= len;
         i = k;
     }
+}
+
+// All four times of a slot: the first for accessed, changed and created, the second for modified.
+pub fn put_times(times: &mut [i64], slot: usize, a: i64, t: i64)
+    requires { ⌜ 4 * slot + 3 < length (now times) ⌝ }
+    ensures { λ _. ⌜ now (times .exit) ≡ timesSet (now (times .entry)) slot a t ⌝ }
+{
+    let i = 4 * slot;
+    times[i] = a;
+    times[i + 1] = a;
+    times[i + 2] = a;
+    times[i + 3] = t;
 }

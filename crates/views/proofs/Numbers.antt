@@ -4,10 +4,10 @@ use mathlib.Core.Bool.{Bool, true, false, not, _||_, _&&_}
 use mathlib.Core.List.{List, [], _∷_}
 use mathlib.Core.Logic.{_⊎_, inl, inr}
 use mathlib.Core.Path.{_≡_, refl, sym, ap, _∙_, subst}
-use Prim.Native.Nat.{ℕ, zero, suc, _+_, _-_, _≤_, _<_}
+use Prim.Native.Nat.{ℕ, zero, suc, _+_, _*_, _-_, _≤_, _<_}
 use native.Mathlib.Omega.{arith}
 use lib.Dec.{T, eqb, leb, leb→le}
-use lib.ListN.{length}
+use lib.ListN.{length, getD}
 use borrow.Author.Tests.{eq-eqb, eqb-false}
 use Rattle.text.specs.Utf8.{Bytes}
 use Rattle.path.specs.Path.{names}
@@ -59,6 +59,24 @@ module _ (st st′ : Store) where
   held-same k h (suc c) i = λ a. h i a || held-same k h c (suc i) a
 
   -- ---- the open numbers
+
+  pub opens-same : ((j : ℕ) → holder st′ j ≡ holder st j) → ((j : ℕ) → position st′ j ≡ position st j) → ((j : ℕ) → keptLength st′ j ≡ keptLength st j) → st′ .paths ≡ st .paths
+      → (c i : ℕ) → opensFrom st′ c i ≡ opensFrom st c i
+  unfolding opensFrom
+  opens-same h p k e zero i = refl
+  opens-same h p k e (suc c) i = rw (opens-same h p k e c (suc i), h i, p i, k i, e) refl
+
+  -- where no word is changed
+  module _ (w : st′ .words ≡ st .words) where
+    pub held-kept : (c i k : ℕ) → heldFrom st′ c i k ≡ heldFrom st c i k
+    held-kept c i k = held-same k (λ j. ap (λ (ws : List ℕ). eqb (getD ws (5 + 3 * j) 0) (suc k)) w) c i
+
+    pub opens-kept : st′ .paths ≡ st .paths → (c i : ℕ) → opensFrom st′ c i ≡ opensFrom st c i
+    opens-kept =
+        opens-same
+        (λ j. ap (λ (ws : List ℕ). getD ws (5 + 3 * j) 0) w)
+        (λ j. ap (λ (ws : List ℕ). getD ws (6 + 3 * j) 0) w)
+        (λ j. ap (λ (ws : List ℕ). getD ws (7 + 3 * j) 0) w)
 
   -- one number: what F makes of the list with it is what F makes of the rest, with what it became
   abbrev pub Turn : (List Open → List Open) → ℕ → Type 0

@@ -13,6 +13,7 @@ use Rattle.model.specs.Tree.{Path, Node, Entries}
 use Rattle.model.specs.Rules.{nameOk}
 use Rattle.layout.specs.Rows.{Row, pathOf, treeFrom}
 use Rattle.layout.specs.Lawful.{follows, entryOk, walkOk, rowsOk, uses}
+use Rattle.layout.proofs.Roots.{root-of}
 use Rattle.views.specs.Parts.{pathAfter, dirAfter}
 
 -- ---- in two parts
@@ -32,6 +33,15 @@ unfolding walkOk pathAfter dirAfter
 walk-both kind n p d [] b = refl
 walk-both kind n p d (r ∷ a) b =
     ap (λ (w : Bool). entryOk n p d r && w) (walk-both kind n (pathOf p r) (eqb (kind (r .slot)) 1) a b) ∙ and-assoc (entryOk n p d r) _ _
+
+-- the second part of a walk from the root
+pub walk-second : (kind : ℕ → ℕ) (n : ℕ) (r : Row) (a b : List Row) → T (rowsOk kind n (r ∷ (a ++ b))) → T (walkOk kind n (pathAfter [] (r ∷ a)) (dirAfter kind false (r ∷ a)) b)
+unfolding pathAfter dirAfter
+walk-second kind n r a b t =
+    let o = root-of kind n r (a ++ b) t in
+    let w = and-right (walkOk kind n [] true a) _ (subst T (walk-both kind n [] true a b) (o .rest)) in
+    subst (λ (p : Path). T (walkOk kind n (pathAfter p a) (dirAfter kind (eqb (kind (r .slot)) 1) a) b)) (sym (o .path))
+    (subst (λ (d : Bool). T (walkOk kind n (pathAfter [] a) (dirAfter kind d a) b)) (sym (eq-eqb (kind (r .slot)) 1 (o .isDir))) w)
 
 pub uses-both : (k : ℕ) (a b : List Row) → uses k (a ++ b) ≡ uses k a + uses k b
 unfolding uses

@@ -9,7 +9,7 @@ use Rattle.changes.specs.Changes.{Changes}
 use Rattle.changes.proofs.Altering.{slotted}
 use mir.Syntax.{w64}
 use mir.ValLaws.{toZ-ofZ}
-use Rattle.changes.specs.Times.{timesSet}
+use Rattle.slots.specs.Times.{timesSet}
 use Rattle.changes.proofs.Metadata.{low, times-changes}
 use borrow.Author.Needs.{needs}
 use Rattle.changes.proofs.set_times.Statement.{statement}

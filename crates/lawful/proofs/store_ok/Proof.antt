@@ -7,8 +7,9 @@ use lib.ListN.{length, getD}
 use lib.Seq.{length-take-le}
 use borrow.Author.Needs.{needs}
 use borrow.Author.Tests.{not-true, not-false}
-use Rattle.lawful.specs.Parts.{Limits, Lengths}
-use Rattle.lawful.proofs.Whole.{pass-limits, pass-lengths, pass-parts, told}
+use Rattle.limits.specs.Limits.{Limits, Lengths}
+use Rattle.lawful.proofs.Whole.{pass-limits, pass-lengths, pass-parts}
+use Rattle.limits.proofs.Settling.{told}
 use Rattle.lawful.proofs.store_ok.Statement.{statement}
 use Rattle.lawful.proofs.store_ok.Tie as tie
 

@@ -3,7 +3,7 @@ use borrow.Author.Needs.{needs}
 use native.Mathlib.Omega.{arith}
 use Rattle.layout.specs.Store.{lent}
 use Rattle.layout.specs.Lawful.{Passes}
-use Rattle.lawful.proofs.Whole.{told}
+use Rattle.limits.proofs.Settling.{told}
 use Rattle.probe.proofs.probe_store.Statement.{statement}
 use Rattle.probe.proofs.probe_store.Tie as tie
 

@@ -3,17 +3,12 @@ use mathlib.Core.Path.{_∙_, ap}
 use mir.Syntax.{w64}
 use mir.ValLaws.{toZ-ofZ}
 use lib.IntN.{ℤ}
-use Rattle.edits.specs.Filling.{timed}
+use Rattle.slots.specs.Times.{timesSet}
 use lib.ListN.{length, length-set}
 use Rattle.edits.proofs.Fills.{may-write, filled}
 use borrow.Author.Needs.{needs}
 use Rattle.edits.proofs.fill.fill_slot.Statement.{statement}
 use Rattle.edits.proofs.fill.fill_slot.Tie as tie
-use Rattle.edits.proofs.fill.fill_slot.Reads as reads
-use Rattle.edits.proofs.fill.fill_slot.Lts as lts
-use Rattle.edits.proofs.fill.put_times.Reads as put-times-reads
-use Rattle.layout.proofs.head_word.Reads as head-word-reads
-use Rattle.slots.proofs.write.Reads as write-reads
 
 head-word-requires : tie.Need-head-word-requires
 head-word-requires c κs = search needs
@@ -47,7 +42,7 @@ returns c =
     let a = c .before .before .before .before .before .before .before .before .before .before .before .before .before .before .pre in
     let g = c .before .before .before .before .before .before .before .before .before .before .before .before .before .before .args in
     filled (g .heads .now) (g .s) (g .kind) (g .mode) _ (c .before .before .before .before .before .before .before .before .before .before .head-word .ensures) (a .2) (a .0) (g .times .now) (g .bytes .now) _ _ _ (g .t) (g .text .now)
-    (c .before .before .before .before .before .before .before .before .put-times .ensures ∙ ap (λ (v : ℤ). timed (g .times .now) (g .s) v) (toZ-ofZ w64 (g .t) (c .before .before .before .before .before .before .before .before .before .before .before .before .before .before .fits .t))) (c .before .before .before .before .write .ensures)
+    (c .before .before .before .before .before .before .before .before .put-times .ensures ∙ ap (λ (v : ℤ). timesSet (g .times .now) (g .s) v v) (toZ-ofZ w64 (g .t) (c .before .before .before .before .before .before .before .before .before .before .before .before .before .before .fits .t))) (c .before .before .before .before .write .ensures)
 
 pub fill-slot-spec : {M : Type 1} → statement M
 fill-slot-spec =

@@ -3,7 +3,7 @@
 use mathlib.Core.Path.{subst}
 use borrow.Author.Needs.{needs}
 use borrow.Author.Tests.{not-true, not-false}
-use Rattle.marks.specs.Settles.{Settles}
+use Rattle.limits.specs.Settles.{Settles}
 use Rattle.marks.specs.Uses.{SlotsRight}
 use Rattle.lawful.proofs.Slotting.{held-bad, held-links}
 use borrow.Author.Needs.{needs}

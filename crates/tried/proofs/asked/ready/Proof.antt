@@ -4,7 +4,7 @@ use mathlib.Core.Bool.{false≢true}
 use borrow.Author.Tests.{not-false}
 use Rattle.layout.specs.Store.{lent}
 use Rattle.layout.specs.Lawful.{Passes}
-use Rattle.lawful.proofs.Whole.{told}
+use Rattle.limits.proofs.Settling.{told}
 use Rattle.tried.proofs.Asking.{uncut}
 use borrow.Author.Needs.{needs}
 use Rattle.tried.proofs.asked.ready.Statement.{statement}

@@ -1,0 +1,40 @@
+-- `absolute::to_absolute_path` meets its contract: an absolute path is normalised, a relative one joined to the directory.
+use mathlib.Core.Path.{sym, ap, _∙_}
+use Rattle.path.specs.Path.{body}
+use Rattle.path.proofs.Forming.{forms-same, from-root, from-dir}
+use borrow.Author.Needs.{needs}
+use Rattle.absolute.proofs.to_absolute_path.Statement.{statement}
+use Rattle.absolute.proofs.to_absolute_path.Tie as tie
+
+is-absolute-requires : tie.Need-is-absolute-requires
+is-absolute-requires c κs = search needs
+
+normalize-path-requires : tie.Need-normalize-path-requires
+normalize-path-requires c κs = search needs
+
+same-length : tie.Need-same-length
+same-length c = search needs
+
+returns : tie.Need-returns
+returns c = forms-same (ap body (from-root _ _ (sym (c .before .before .before .before .before .is-absolute .ensures) ∙ c .before .before .before .before .if1 .taken))) (c .before .before .normalize-path .ensures)
+
+join-requires : tie.Need-join-requires
+join-requires c κs = search needs
+
+same-length-2 : tie.Need-same-length-2
+same-length-2 c = search needs
+
+returns-2 : tie.Need-returns-2
+returns-2 c = forms-same (ap body (from-dir _ _ (sym (c .before .before .before .before .before .is-absolute .ensures) ∙ c .before .before .before .before .if1 .left))) (c .before .before .join .ensures)
+
+pub to-absolute-path-spec : {M : Type 1} → statement M
+to-absolute-path-spec =
+    tie.close
+    (tie.spec
+    is-absolute-requires
+    normalize-path-requires
+    same-length
+    returns
+    join-requires
+    same-length-2
+    returns-2)

@@ -1,0 +1,2 @@
+pub mod Settles
+pub mod Limits
