@@ -127,3 +127,8 @@ state st =
 abbrev pub cut : Store → Store
 cut st =
     record { words = take 101 (st .words); records = take (most st) (st .records); heads = take (slotsFor (most st)) (st .heads); times = take (4 * slotsFor (most st)) (st .times); paths = take 33792 (st .paths); bytes = take (room st) (st .bytes) }
+
+-- what stands behind that, by the limits: nothing reads it or writes it
+abbrev pub spare : ℕ → ℕ → Store → Store
+spare m b st =
+    record { words = drop 101 (st .words); records = drop m (st .records); heads = drop (slotsFor m) (st .heads); times = drop (4 * slotsFor m) (st .times); paths = drop 33792 (st .paths); bytes = drop b (st .bytes) }

@@ -6,9 +6,9 @@ use Prim.Native.Nat.{ℕ, zero, suc, _+_, _-_, _*_, _≤_}
 use native.Mathlib.Omega.{arith}
 use lib.IntN.{ℤ}
 use lib.ListN.{length, take, drop, getD, set, replicate, length-replicate, length-append, length-drop}
-use lib.Seq.{take-append-seam, length-take-le, getD-drop}
+use lib.Seq.{take-append-seam, drop-append-seam, length-take-le, getD-drop}
 use Rattle.text.specs.Utf8.{Bytes}
-use Rattle.layout.specs.Store.{Store, lent, cut}
+use Rattle.layout.specs.Store.{Store, lent, cut, spare}
 use Rattle.layout.specs.Lawful.{Long}
 use Rattle.setup.specs.SetUp.{freshWords}
 use Rattle.setup.proofs.Blank.{Blank}
@@ -45,10 +45,21 @@ zeros-taken n hs =
     let e : length (replicate {A = ℕ} n 0) ≡ n = length-replicate n 0 in
     ap (λ (k : ℕ). take k (replicate n 0 ++ drop n hs)) (sym e) ∙ take-append-seam (replicate n 0) (drop n hs)
 
+fresh-rest : (m b : ℕ) (ws : List ℕ) → drop 101 (freshWords m b ws) ≡ drop 101 ws
+fresh-rest m b ws = ap (drop 101) (fresh-front m b ws) ∙ drop-append-seam (front m b) (drop 101 ws)
+
+zeros-rest : (n : ℕ) (hs : List ℕ) → drop n (replicate n 0 ++ drop n hs) ≡ drop n hs
+zeros-rest n hs =
+    let e : length (replicate {A = ℕ} n 0) ≡ n = length-replicate n 0 in
+    ap (λ (k : ℕ). drop k (replicate n 0 ++ drop n hs)) (sym e) ∙ drop-append-seam (replicate n 0) (drop n hs)
+
 module _ (m b : ℕ) (ws rs hs : List ℕ) (ts : List ℤ) (ps bs : Bytes) where
   -- the store that set up leaves
   abbrev left : Store
   left = lent (freshWords m b ws) rs (replicate (m + 32) 0 ++ drop (m + 32) hs) ts ps bs
+
+  pub left-spare : spare m b left ≡ spare m b (lent ws rs hs ts ps bs)
+  left-spare = λ i. lent (fresh-rest m b ws i) (drop m rs) (zeros-rest (m + 32) hs i) (drop (4 * (m + 32)) ts) (drop 33792 ps) (drop b bs)
 
   module _ (lw : 101 ≤ length ws) (lr : m ≤ length rs) (lh : m + 32 ≤ length hs) (lt : 4 * (m + 32) ≤ length ts) (lp : 33792 ≤ length ps) (lb : b ≤ length bs) where
     has-most : getD (freshWords m b ws) 0 0 ≡ m

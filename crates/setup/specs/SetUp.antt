@@ -7,7 +7,7 @@ use Prim.Native.Nat.{ℕ, zero, suc, _*_}
 use lib.Dec.{leb}
 use lib.ListN.{length, drop, replicate, set}
 use Rattle.model.specs.Calls.{freshState}
-use Rattle.layout.specs.Store.{Store, slotsFor, cut, state}
+use Rattle.layout.specs.Store.{Store, slotsFor, cut, spare, state}
 use Rattle.layout.specs.Lawful.{Passes}
 
 -- "an entry limit of 1 to 4,096", and each slice of the entry storage long enough for it
@@ -30,9 +30,10 @@ refusalOf m b st =
 unfoldable pub freshWords : ℕ → ℕ → List ℕ → List ℕ
 freshWords m b ws = set (set (set (replicate 101 0 ++ drop 101 ws) 0 m) 1 b) 3 0o666
 
--- what stands there after a refusal, or after an answer of 0: the fresh state, whatever stood there before
+-- what stands there after an answer of 0: the fresh state, whatever stood there before, and behind it what was there; and after a
+-- refusal
 abbrev pub Leaves : ℕ → ℕ → ℕ → Store → Store → Type 0
-Leaves zero m b st st′ = Passes st′ × (state (cut st′) ≡ freshState m b)
+Leaves zero m b st st′ = Passes st′ × (state (cut st′) ≡ freshState m b) × (spare m b st′ ≡ spare m b st)
 Leaves (suc n) m b st st′ = st′ ≡ st
 
 -- the answer, and what is left
