@@ -5,7 +5,8 @@
 // no rule speaks of it. HOLDS is what the store holds before: `empty`, `root`, or `k`, tree K with a current directory and two open
 // files. A CHANGE is a place, an index and a value: `words 0 4097`, the place one of the six slices; `length I N`, of slice I (0 to
 // 5) only N elements are handed over; `letters-in-paths I N` and `letters-in-bytes I N`, N letters `a` from index I on. A number is
-// decimal, or hexadecimal behind 0x. A line that begins with # is skipped; `?` is written for a place or HOLDS that is none.
+// decimal below 10 * 2^60, or hexadecimal in small letters behind 0x. A line that begins with # is skipped; `?` is written for a place
+// or HOLDS that is none. Of standard input the first 65,536 bytes are read.
 mod read;
 mod store;
 mod tried;

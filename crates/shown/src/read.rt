@@ -16,7 +16,7 @@ fn digit(b: u8) -> u64 {
     wide((b - b'a') % 6 + 10)
 }
 
-// One more digit behind v, where there is room in 64 bits.
+// One more digit behind v, of which the low 60 bits are kept.
 fn shifted(v: u64, d: u64, hex: bool) -> u64 {
     if hex {
         return v % 1152921504606846976 * 16 + d % 16;
@@ -24,7 +24,7 @@ fn shifted(v: u64, d: u64, hex: bool) -> u64 {
     v % 1152921504606846976 * 10 + d % 10
 }
 
-// A decimal number, or with 0x before it a hexadecimal one.
+// A decimal number below 10 * 2^60, or with 0x before it a hexadecimal one of 64 bits.
 pub fn number(s: &[u8]) -> u64 {
     let hex = at(s, 1) == b'x';
     let mut v = 0;
