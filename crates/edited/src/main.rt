@@ -6,10 +6,10 @@
 //     remove AT | move AT DIR NAME | mode AT MODE | times AT TIME TIME | contents AT BYTES TIME | length AT N
 //     open N POSITION PATH | close N | seek N POSITION | current PATH | umask MODE
 // AT is a record's number, DIR that of the directory into which AT is moved, N before POSITION and behind `close` a file number. A
-// number is decimal below 10 * 2^60, or hexadecimal in small letters behind 0x. In a name, bytes, a target or a path \HH, two hexadecimal digits in small letters, is
-// a byte, and \*NNNN, four decimal digits, repeats the byte before it so that it stands NNNN times. A line that begins with # is
-// skipped; a word that is none makes no edit; a seek of a closed number
-// is made and changes nothing. Of standard input the first 65,536 bytes are read.
+// number is decimal below 10 * 2^60, or hexadecimal in small letters behind 0x. In a name, bytes, a target or a path \HH, two
+// hexadecimal digits in small letters, is a byte, and \*NNNN, four decimal digits, repeats the byte before it so that it stands NNNN
+// times. A line that begins with # is skipped; a word that is none makes no edit; a seek of a closed number is made and changes nothing.
+// Of standard input the first 65,536 bytes are read.
 //
 // An entry is written as `AT PATH [SLOT: TIMES] KIND, MODE, BYTES`, the times accessed, changed, created and modified. An open
 // number is written with its slot, which may have lost its name. A text of more than 40 bytes is its first and last 8, and a sum.
