@@ -23,7 +23,7 @@ use Rattle.layout.proofs.Slotted.{SlotOf, free, directory, named, removed, targ
 use Rattle.slots.proofs.Contents.{length-contents}
 use Rattle.slots.proofs.Totals.{total-set}
 use Rattle.views.specs.Parts.{dirAfter}
-use Rattle.views.proofs.Parted.{Has, uses-both, rows-slots, dir-slots}
+use Rattle.views.proofs.Parted.{Has, has-first, uses-both, rows-slots, dir-slots}
 use Rattle.edits.specs.Growth.{newMeta, Grown}
 use Rattle.edits.proofs.Counted.{same-most, same-room, same-mask, new-count, same-held, here-ok, number-ok}
 
@@ -95,9 +95,6 @@ module _ (st st′ : Store) (a b : List Row) (row : Row) (h : ℕ) (c : Bytes) (
   pub same-node : (k : ℕ) → Has (a ++ b) k → nodeAt st′ k ≡ nodeAt st k
   same-node k u = node-same k (sym (same-kind k u)) (other-meta k (not-new k u)) (other-bytes k (not-new k u))
 
-  has-first : (k : ℕ) → Has a k → Has (a ++ b) k
-  has-first k u = omega (arith, uses-both k a b)
-
   -- the rules of the entries that were there hold as well by what the slots now hold
   pub rows-still : T (rowsOk (kindAt st′) (length (st .heads)) (a ++ b))
   rows-still =
@@ -105,7 +102,7 @@ module _ (st st′ : Store) (a b : List Row) (row : Row) (h : ℕ) (c : Bytes) (
       (subst (λ (rs : List Row). T (rowsOk (kindAt st) (length (st .heads)) rs)) (g .old) (l .entries))
 
   pub dir-still : dirAfter (kindAt st) false a ≡ dirAfter (kindAt st′) false a
-  dir-still = dir-slots (kindAt st) (kindAt st′) false a (λ k u. same-kind k (has-first k u))
+  dir-still = dir-slots (kindAt st) (kindAt st′) false a (λ k u. same-kind k (has-first a b k u))
 
   -- ---- the rules
 

@@ -30,7 +30,7 @@ use Rattle.layout.proofs.Slotted.{dir-at, file-at, link-at}
 use Rattle.layout.proofs.Tables.{fileAt, file-found, file-there}
 use Rattle.views.specs.Parts.{pathAfter}
 use Rattle.views.proofs.Inserting.{look-new}
-use Rattle.views.proofs.Parted.{Has, tree-both, tree-slots, uses-both}
+use Rattle.views.proofs.Parted.{Has, has-first, tree-both, tree-slots, uses-both}
 use Rattle.views.proofs.Shapes.{lawful-shape}
 use Rattle.views.proofs.Telling.{Shape, renode, reopen, lives, matches-alike, same-alike}
 use Rattle.edits.specs.Growth.{newMeta, Grown}
@@ -54,9 +54,6 @@ module _ (st st′ : Store) (a b : List Row) (row : Row) (h : ℕ) (c : Bytes) (
 
   -- ---- the tree
 
-  has-first : (k : ℕ) → Has a k → Has (a ++ b) k
-  has-first k u = omega (arith, uses-both k a b)
-
   has-second : (k : ℕ) → Has b k → Has (a ++ b) k
   has-second k u = omega (arith, uses-both k a b)
 
@@ -67,7 +64,7 @@ module _ (st st′ : Store) (a b : List Row) (row : Row) (h : ℕ) (c : Bytes) (
   new-tree =
       ap (treeFrom (nodeAt st′) []) (g .new)
       ∙ (tr (nodeAt st′)
-      ∙ (ap (λ (e : Entries). e ++ ((at, nodeAt st′ s) ∷ treeFrom (nodeAt st′) (pathAfter [] a) b)) (tree-slots (nodeAt st′) (nodeAt st) [] a (λ k u. same-node st st′ a b row h c t l g k (has-first k u)))
+      ∙ (ap (λ (e : Entries). e ++ ((at, nodeAt st′ s) ∷ treeFrom (nodeAt st′) (pathAfter [] a) b)) (tree-slots (nodeAt st′) (nodeAt st) [] a (λ k u. same-node st st′ a b row h c t l g k (has-first a b k u)))
       ∙ ap (λ (e : Entries). treeFrom (nodeAt st) [] a ++ ((at, nodeAt st′ s) ∷ e)) (tree-slots (nodeAt st′) (nodeAt st) (pathAfter [] a) b (λ k u. same-node st st′ a b row h c t l g k (has-second k u)))))
 
   look-is : (n : Node) → nodeAt st′ s ≡ n → (r : Path) → look (state st′ .tree) r ≡ look (put at n (was .tree)) r

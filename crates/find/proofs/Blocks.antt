@@ -19,10 +19,10 @@ use Rattle.layout.specs.Rows.{Row, nameTotal, rows, pathOf}
 use Rattle.layout.specs.Store.{Store, count, live, rowsOf, kindAt}
 use Rattle.layout.specs.Lawful.{walkOk, Lawful}
 use Rattle.layout.proofs.Named.{rows-drop}
-use Rattle.layout.proofs.Rising.{Follows, aside, below, follows-by}
+use Rattle.layout.proofs.Rising.{Follows, aside, below}
 use Rattle.layout.proofs.Used.{live-length}
 use Rattle.views.specs.Parts.{pathAfter, dirAfter, Deeper, NotDeeper}
-use Rattle.views.proofs.Removing.{walk-follows}
+use Rattle.views.proofs.Removing.{walk-rises}
 use Rattle.find.specs.Totals.{pickN, span}
 use Rattle.find.specs.Paths.{rowAt, pathAt}
 use Rattle.find.proofs.Sums.{span-le}
@@ -142,5 +142,5 @@ module _ (st : Store) (l : Lawful st) where
           let p = pathAt st k in
           let b = dirAfter (kindAt st) false (take (suc k) (rowsOf st)) in
           let w = subst (λ (us : List Row). T (walkOk (kindAt st) (length (st .heads)) p b us)) (ap (λ (m : ℕ). drop m (rowsOf st)) (sym next) ∙ e) (walk-behind st l k) in
-          let high = above-root p b (r .name) (r .depth) (follows-by p b (r .depth) (r .name) (walk-follows (kindAt st) (length (st .heads)) p b r rs w)) in
+          let high = above-root p b (r .name) (r .depth) (walk-rises (kindAt st) (length (st .heads)) p b r rs w) in
           absurd (omega (arith, low, high, root-depth st l h))

@@ -12,3 +12,4 @@ pub mod Used
 pub mod Entered
 pub mod Obeying
 pub mod Worded
+pub mod Zeros

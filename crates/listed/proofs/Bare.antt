@@ -15,9 +15,8 @@ use Rattle.layout.specs.Fields.{depthOf}
 use Rattle.layout.specs.Rows.{Row}
 use Rattle.layout.specs.Store.{Store, count, rowsOf, kindAt, state}
 use Rattle.layout.specs.Lawful.{walkOk, Lawful}
-use Rattle.layout.proofs.Rising.{follows-by}
 use Rattle.views.specs.Parts.{dirAfter}
-use Rattle.views.proofs.Removing.{walk-follows}
+use Rattle.views.proofs.Removing.{walk-rises}
 use Rattle.find.specs.Paths.{rowAt, pathAt}
 use Rattle.find.proofs.Records.{walk-behind, rest-at, path-depth}
 use Rattle.listed.specs.Listed.{listedFrom}
@@ -47,7 +46,7 @@ module _ (st : Store) (l : Lawful st) (i : ℕ) (h : i < count st) where
         let b = dirAfter (kindAt st) false (take (suc i) (rowsOf st)) in
         let r = rowAt st (suc i) in
         let w = subst (λ (rs : List Row). T (walkOk (kindAt st) (length (st .heads)) p b rs)) (rest-at st l (suc i) (omega (arith, g))) (walk-behind st l i) in
-        let z = low p b (r .name) (r .depth) (follows-by p b (r .depth) (r .name) (walk-follows (kindAt st) (length (st .heads)) p b r (drop (suc (suc i)) (rowsOf st)) w)) in
+        let z = low p b (r .name) (r .depth) (walk-rises (kindAt st) (length (st .heads)) p b r (drop (suc (suc i)) (rowsOf st)) w) in
         omega (arith, z, path-depth st l i h, ap (λ (k : ℕ). depthOf (getD (st .records) k 0)) (add-one i))
 
     pub bare-next : leb e d ≡ bare

@@ -17,12 +17,12 @@ use Rattle.model.specs.Prog.{Stat, statOf, child, children}
 use Rattle.model.proofs.Entries.{behind-self}
 use Rattle.layout.specs.Rows.{Row, pathBy, pathOf, treeFrom}
 use Rattle.layout.specs.Lawful.{walkOk, rowsOk}
-use Rattle.layout.proofs.Rising.{Follows, aside, below, follows-by, next-length, rise-next}
+use Rattle.layout.proofs.Rising.{Follows, aside, below, next-length, rise-next}
 use Rattle.layout.proofs.Roots.{root-of}
 use Rattle.layout.proofs.Walks.{at-rises, rest-ok}
 use Rattle.views.specs.Parts.{pathAfter}
 use Rattle.views.proofs.Parted.{tree-both}
-use Rattle.views.proofs.Removing.{walk-follows, next-keeps, Beyond, beyond-rises, beyond-behind, rises-behind, beyond-aside}
+use Rattle.views.proofs.Removing.{walk-follows, walk-rises, next-keeps, Beyond, beyond-rises, beyond-behind, rises-behind, beyond-aside}
 use Rattle.views.proofs.Blocked.{at-seam}
 use Rattle.listed.specs.Listed.{entriesIn, shown}
 
@@ -68,9 +68,6 @@ beyond-here q p d x k h l (aside j a t) =
 beyond-here q p d x k h l (below e) = absurd (omega (arith, l, sym (length-take (length q) p) ∙ ap length h))
 
 module _ (kind : ℕ → ℕ) (n : ℕ) (f : ℕ → Node) where
-  rises : (p : Path) (d : Bool) (r : Row) (rs : List Row) → T (walkOk kind n p d (r ∷ rs)) → Follows p d (r .name) (r .depth)
-  rises p d r rs t = follows-by p d (r .depth) (r .name) (walk-follows kind n p d r rs t)
-
   -- ---- before and beyond
 
   front-none : (p : Path) (s : Row) (d : Bool) (a : List Row) (row : Row) (b : List Row) → T (walkOk kind n (pathOf p s) d (a ++ (row ∷ b)))
@@ -89,7 +86,7 @@ module _ (kind : ℕ → ℕ) (n : ℕ) (f : ℕ → Node) where
   unfolding treeFrom under
   beyond-none q p d [] h t = refl
   beyond-none q p d (r ∷ rs) h t =
-      let g : Beyond q (pathOf p r) = beyond-rises q p (pathOf p r) h (rise-next p d (r .name) (r .depth) (rises p d r rs t)) in
+      let g : Beyond q (pathOf p r) = beyond-rises q p (pathOf p r) h (rise-next p d (r .name) (r .depth) (walk-rises kind n p d r rs t)) in
       passed q (pathOf p r) (f (r .slot)) (treeFrom f (pathOf p r) rs) (beyond-behind q (pathOf p r) g)
       ∙ beyond-none q (pathOf p r) (eqb (kind (r .slot)) 1) rs g (rest-ok kind n p d r rs t)
 
@@ -131,13 +128,13 @@ module _ (kind : ℕ → ℕ) (n : ℕ) (f : ℕ → Node) where
         two l false e =
             entered fs q o (drop m o) (f (r .slot)) (treeFrom f o rs) (begun q o (keeps l))
             ∙ (child-far (drop m o) (statOf fs (f (r .slot))) (children fs (under q (treeFrom f o rs)))
-            (omega (arith, l, eqb-false (r .depth) (suc m) e, length-drop m o, next-length p d (r .name) (r .depth) (rises p d r rs t)))
+            (omega (arith, l, eqb-false (r .depth) (suc m) e, length-drop m o, next-length p d (r .name) (r .depth) (walk-rises kind n p d r rs t)))
             ∙ ih (keeps l))
 
         one : (b : Bool) → leb (r .depth) m ≡ b
             → children fs (under q ((o, f (r .slot)) ∷ treeFrom f o rs)) ≡ shown fs f (cond b [] (keepIf (eqb (r .depth) (suc m)) r rest))
         one true e =
-            let g : Beyond q o = beyond-here q p d (r .name) (r .depth) h (leb-true (r .depth) m e) (rises p d r rs t) in
+            let g : Beyond q o = beyond-here q p d (r .name) (r .depth) h (leb-true (r .depth) m e) (walk-rises kind n p d r rs t) in
             ap (children fs)
             (passed q o (f (r .slot)) (treeFrom f o rs) (beyond-behind q o g)
             ∙ beyond-none q o (eqb (kind (r .slot)) 1) rs g (rest-ok kind n p d r rs t))

@@ -1,14 +1,14 @@
 -- The entries of a directory stand in the order of their names, so putting them in order changes nothing.
 -- Assumes nothing.
 use mathlib.Core.Bool.{Bool, true, false, cond}
-use mathlib.Core.List.{List, [], _∷_, _++_}
+use mathlib.Core.List.{List, [], _∷_}
 use mathlib.Core.Option.{Option, none, some}
 use mathlib.Core.Path.{_≡_, refl, sym, ap, _∙_, subst}
 use Prim.Native.Nat.{ℕ, suc, _≤_, _<_}
 use native.Mathlib.Omega.{arith}
 use lib.Dec.{T, leb, eqb}
-use lib.ListN.{length, take, getD}
-use lib.Seq.{length-take-le, getD-take, getD-append-seam}
+use lib.ListN.{length, getD}
+use lib.Seq.{getD-take}
 use borrow.Author.Tests.{leb-false, eqb-true, eqb-false}
 use Rattle.path.specs.Path.{Name}
 use Rattle.model.specs.Tree.{Path, Node, Files, keepIf, before, placeBy, place, inOrder}
@@ -16,9 +16,10 @@ use Rattle.model.specs.Prog.{Stat, statOf, child}
 use Rattle.model.proofs.Entries.{is-true}
 use Rattle.layout.specs.Rows.{Row, pathBy, pathOf}
 use Rattle.layout.specs.Lawful.{walkOk}
-use Rattle.layout.proofs.Rising.{before-both, Follows, aside, below, follows-by, next-length}
+use Rattle.layout.proofs.Rising.{before-both, Follows, aside, below, next-length}
 use Rattle.layout.proofs.Walks.{rest-ok}
-use Rattle.views.proofs.Removing.{walk-follows, next-keeps}
+use Rattle.views.proofs.Blocked.{getD-last}
+use Rattle.views.proofs.Removing.{walk-follows, walk-rises, next-keeps}
 use Rattle.listed.specs.Listed.{entriesIn, shown}
 
 -- ---- names that rise
@@ -55,9 +56,6 @@ child-order x (some s) l c = ap (place (x, s)) (chain-order x l c) ∙ place-fir
 -- ---- the entries of a walk
 
 -- the name behind so many of a path
-last-name : (m : ℕ) (p : Path) (x : Name) → m ≤ length p → getD (take m p ++ (x ∷ [])) m [] ≡ x
-last-name m p x h = ap (λ (k : ℕ). getD (take m p ++ (x ∷ [])) k []) (sym (length-take-le m p h)) ∙ getD-append-seam (take m p) x [] []
-
 -- a greater name than the one at its place
 greater : (p : Path) (d : Bool) (x : Name) (m k : ℕ) → k ≡ suc m → m < length p → Follows p d x k → T (before (getD p m []) x)
 greater p d x m k e h (aside j a t) = let g : j ≡ m = omega (arith, e) in subst (λ (i : ℕ). T (before (getD p i []) x)) g t
@@ -68,9 +66,6 @@ low p d x k (aside j a t) = omega arith
 low p d x k (below b) = omega arith
 
 module _ (kind : ℕ → ℕ) (n : ℕ) (fs : Files) (f : ℕ → Node) where
-  follows : (p : Path) (d : Bool) (r : Row) (rs : List Row) → T (walkOk kind n p d (r ∷ rs)) → Follows p d (r .name) (r .depth)
-  follows p d r rs t = follows-by p d (r .depth) (r .name) (walk-follows kind n p d r rs t)
-
   -- behind an entry of a directory of m names
   chain-on : (m : ℕ) (p : Path) (d : Bool) (r : Row) (rs : List Row) → m < length p → T (walkOk kind n p d (r ∷ rs))
       → (m < length (pathOf p r) → Chain (getD (pathOf p r) m []) (shown fs f (entriesIn m rs)))
@@ -79,13 +74,13 @@ module _ (kind : ℕ → ℕ) (n : ℕ) (fs : Files) (f : ℕ → Node) where
   chain-on m p d r rs h t ih = one (leb (r .depth) m) refl
     where
       long : length (pathOf p r) ≡ r .depth
-      long = next-length p d (r .name) (r .depth) (follows p d r rs t)
+      long = next-length p d (r .name) (r .depth) (walk-rises kind n p d r rs t)
 
       two : m < r .depth → (b : Bool) → eqb (r .depth) (suc m) ≡ b → Chain (getD p m []) (shown fs f (keepIf b r (entriesIn m rs)))
       two l true e =
           let g = eqb-true (r .depth) (suc m) e in
-          let z : getD (pathOf p r) m [] ≡ r .name = ap (λ (k : ℕ). getD (pathBy k p (r .name)) m []) g ∙ last-name m p (r .name) (omega (arith, h)) in
-          chain-child (getD p m []) (r .name) (statOf fs (f (r .slot))) (shown fs f (entriesIn m rs)) (greater p d (r .name) m (r .depth) g h (follows p d r rs t))
+          let z : getD (pathOf p r) m [] ≡ r .name = ap (λ (k : ℕ). getD (pathBy k p (r .name)) m []) g ∙ getD-last m p (r .name) (omega (arith, h)) in
+          chain-child (getD p m []) (r .name) (statOf fs (f (r .slot))) (shown fs f (entriesIn m rs)) (greater p d (r .name) m (r .depth) g h (walk-rises kind n p d r rs t))
           (subst (λ (x : Name). Chain x (shown fs f (entriesIn m rs))) z (ih (omega (arith, long, l))))
       two l false e =
           let k = next-keeps kind n (suc m) p d r (r .depth) refl (omega (arith, l, eqb-false (r .depth) (suc m) e)) (walk-follows kind n p d r rs t) in
@@ -116,13 +111,13 @@ module _ (kind : ℕ → ℕ) (n : ℕ) (fs : Files) (f : ℕ → Node) where
 
       chained : r .depth ≡ suc m → Chain (r .name) rest
       chained g =
-          let z : getD (pathOf p r) m [] ≡ r .name = ap (λ (k : ℕ). getD (pathBy k p (r .name)) m []) g ∙ last-name m p (r .name) (omega arith) in
+          let z : getD (pathOf p r) m [] ≡ r .name = ap (λ (k : ℕ). getD (pathBy k p (r .name)) m []) g ∙ getD-last m p (r .name) (omega arith) in
           subst (λ (x : Name). Chain x rest) z
-          (chain-of m (pathOf p r) (eqb (kind (r .slot)) 1) rs (omega (arith, g, next-length p d (r .name) (r .depth) (follows p d r rs t))) (rest-ok kind n p d r rs t))
+          (chain-of m (pathOf p r) (eqb (kind (r .slot)) 1) rs (omega (arith, g, next-length p d (r .name) (r .depth) (walk-rises kind n p d r rs t))) (rest-ok kind n p d r rs t))
 
       two : m < r .depth → (b : Bool) → eqb (r .depth) (suc m) ≡ b → inOrder (shown fs f (keepIf b r (entriesIn m rs))) ≡ shown fs f (keepIf b r (entriesIn m rs))
       two l true e = child-order (r .name) (statOf fs (f (r .slot))) rest (chained (eqb-true (r .depth) (suc m) e))
-      two l false e = absurd (omega (arith, l, eqb-false (r .depth) (suc m) e, low p d (r .name) (r .depth) (follows p d r rs t)))
+      two l false e = absurd (omega (arith, l, eqb-false (r .depth) (suc m) e, low p d (r .name) (r .depth) (walk-rises kind n p d r rs t)))
 
       one : (b : Bool) → leb (r .depth) m ≡ b
           → inOrder (shown fs f (cond b [] (keepIf (eqb (r .depth) (suc m)) r (entriesIn m rs)))) ≡ shown fs f (cond b [] (keepIf (eqb (r .depth) (suc m)) r (entriesIn m rs)))

@@ -8,7 +8,7 @@ use native.Mathlib.Nat.{zero-add}
 use native.Mathlib.Numerals.{add-one}
 use native.Mathlib.Omega.{arith}
 use lib.Dec.{eqb}
-use lib.ListN.{length, take, getD, set, replicate}
+use lib.ListN.{length, take, getD, set}
 use lib.Seq.{getD-set-same, getD-set-other}
 use borrow.Author.Tests.{eq-eqb, ne-eqb, eqb-true, eqb-false}
 use Rattle.layout.specs.Fields.{slotOf}
@@ -136,9 +136,3 @@ module _ (ws marks₀ marks : List ℕ) (j : ℕ) (w : Added ws marks₀ marks j
         go false e b q =
             let o : getD (set marks s v) k 0 ≡ getD marks k 0 = getD-set-other marks s k v 0 (λ y. eqb-false (getD ws (5 + 3 * j) 0) (suc k) e (omega arith)) in
             o ∙ w k ∙ ap (λ (t : Bool). getD marks₀ k 0 + cond t 2 0) (sym (more k false e ∙ or-false (standsFrom ws j 0 k)))
-
--- marks that are all 0
-pub all-zero : (n k : ℕ) → _≡_ {A = ℕ} (getD (replicate n 0) k 0) 0
-all-zero zero k = refl
-all-zero (suc n) zero = refl
-all-zero (suc n) (suc k) = all-zero n k

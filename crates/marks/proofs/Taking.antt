@@ -10,6 +10,7 @@ use lib.Dec.{T, eqb, ltb}
 use lib.ListN.{length, take, getD, set, List·getD-eq-default}
 use lib.Seq.{getD-set-same, getD-set-other}
 use borrow.Author.Tests.{eq-eqb, ne-eqb, eqb-true, eqb-false, ltb-true, ltb-false}
+use Rattle.model.proofs.Entries.{is-false}
 use Rattle.layout.specs.Fields.{slotOf, kindOf}
 use Rattle.layout.specs.Lawful.{slotBy}
 use Rattle.limits.specs.Settles.{Settles}
@@ -154,10 +155,6 @@ module _ (ws heads t₀ t : List ℕ) (j n : ℕ) where
               subst (λ (m : ℕ). Opened (standsFrom ws (j + 1) 0 k) (getD heads k 0) (getD t₀ k 0) m) (sym o) (other k h e)
 
 -- ---- all slots
-
-is-false : (b : Bool) → (T b → ⊥) → b ≡ false
-is-false true n = absurd (n tt)
-is-false false n = refl
 
 is-none : (u : ℕ) → (0 < u → ⊥) → u ≡ 0
 is-none zero n = refl

@@ -17,7 +17,7 @@ use Rattle.model.proofs.Ordering.{named, named-here, named-past, Names,
 use Rattle.model.proofs.Over.{atPlace, Over, pair-number, lone-number}
 use Rattle.model.proofs.OverEdits.{Likes, dirs, files, links, likes, not-missed}
 use Rattle.model.proofs.Places.{inTree}
-use Rattle.model.proofs.TwoRuns.{or-false}
+use Rattle.path.proofs.Following.{or-false}
 
 -- ---- what a directory shows
 

@@ -18,19 +18,15 @@ use Rattle.model.specs.Calls
 use Rattle.model.specs.Calls.{Call, program}
 use Rattle.model.proofs.LinkCount.{links-cut}
 use Rattle.model.proofs.Loops.{bounds}
+use Rattle.model.proofs.PureLookups.{pure-need}
 use Rattle.model.proofs.Rewalk.{lookup-leaves}
 use Rattle.model.proofs.Running.{then, run-bind, Pure, pure-bind, After, after-bind, pure-after}
 
 -- ---- parts that edit nothing
 
-need-pure : (b : Bool) (n : ℕ) → Pure (need b n)
-unfolding need
-need-pure true n = tt
-need-pure false n = tt
-
 abs-pure : (h : Path) (s : Bytes) → Pure (toAbsolute h s)
 unfolding toAbsolute _>>_
-abs-pure h s = pure-bind (need _ 6) _ (need-pure _ 6) (λ x. tt)
+abs-pure h s = pure-bind (need _ 6) _ (pure-need _ 6) (λ x. tt)
 
 must-pure : {A : Type 0} (o : Option A) → Pure (must o)
 unfolding must
@@ -56,13 +52,13 @@ file-pure aLink = tt
 
 empty-pure : (b : Bool) (p : Path) → Pure (emptied b p)
 unfolding emptied _>>=_
-empty-pure true p = λ n. need-pure n 12
+empty-pure true p = λ n. pure-need n 12
 empty-pure false p = tt
 
 replaces-pure : (k : Kind) (p : Path) (o : Option Kind) → Pure (replaces k p o)
 unfolding replaces _>>_
 replaces-pure k p none = tt
-replaces-pure k p (some e) = pure-bind (need _ 10) _ (need-pure _ 10) (λ x. empty-pure _ p)
+replaces-pure k p (some e) = pure-bind (need _ 10) _ (pure-need _ 10) (λ x. empty-pure _ p)
 
 module _ (a b : ℕ) where
   -- both bounds are from the number of links on
@@ -131,7 +127,7 @@ module _ (a b : ℕ) where
   resolve-twin : (w : World) (h : Path) (s : Bytes) → Fit w → Twin w (resolve a h s) (resolve b h s)
   unfolding resolve _>>_
   resolve-twin w h s t =
-      bind-twin w (need _ 8) (need _ 8) _ _ (twin-pure w _ (need-pure _ 8) t)
+      bind-twin w (need _ 8) (need _ 8) _ _ (twin-pure w _ (pure-need _ 8) t)
       (λ _ v i. bind-twin v (toAbsolute h s) (toAbsolute h s) _ _ (twin-pure v _ (abs-pure h s) i)
       (λ p u j. bind-twin u (lookup a p) (lookup b p) _ _ (twin-lookup u p j)
       (λ x z k. bind-twin z (arrive x) (arrive x) _ _ (twin-pure z _ (arrive-pure x) k)
@@ -178,7 +174,7 @@ module _ (a b : ℕ) where
         (λ m u j. look-same u p _ _ j
         (λ x z k. then-same z (arrive x) _ _ (arrive-pure x) k
         (λ _ y n. then-same y (must (x .kind)) _ _ (must-pure _) n
-        (λ e d o. then-same d (need _ 11) _ _ (need-pure _ 11) o
+        (λ e d o. then-same d (need _ 11) _ _ (pure-need _ 11) o
         (λ _ c r. look-same c q _ _ r
         (λ y′ z′ k′. then-same z′ (arrive y′) _ _ (arrive-pure y′) k′
         (λ _ u′ i′. then-same u′ (replaces e (y′ .path) (y′ .kind)) _ _ (replaces-pure e (y′ .path) (y′ .kind)) i′
@@ -238,7 +234,7 @@ any-bound (Calls.symlinkMetadataCall w s k) a b h m v x y = refl
 any-bound (Calls.readLinkCall w s k) a b h m v x y = refl
 any-bound (Calls.setPermissionsCall w s k) a b h m v x y = after-walk a b v h s (λ p. p) _ (x, y)
 any-bound (Calls.setTimesCall w s f g) a b h m v x y =
-    then-same a b v (need _ 8) _ _ (need-pure _ 8) (x, y) (λ _ u i. look-same a b u _ _ _ i (λ r e k. refl))
+    then-same a b v (need _ 8) _ _ (pure-need _ 8) (x, y) (λ _ u i. look-same a b u _ _ _ i (λ r e k. refl))
 any-bound (Calls.listCall w s k r) a b h m v x y = after-walk a b v h s (λ p. p) _ (x, y)
 any-bound (Calls.closeCall n) a b h m v x y = refl
 any-bound (Calls.readNumberCall n k) a b h m v x y = refl

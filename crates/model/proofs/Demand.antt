@@ -32,7 +32,8 @@ use Rattle.model.proofs.Places.{inTree, inHand}
 use Rattle.model.proofs.Spacing.{Top, weight, weight-edit, top-edit, hand-has, total-length, total-names, last-name, root-name, like-target}
 use Rattle.model.proofs.Tidy.{Tidy, tidy-edit}
 use Rattle.model.proofs.Totals.{total, total-has}
-use Rattle.model.proofs.TwoRuns.{Alike, or-false, two-runs}
+use Rattle.path.proofs.Following.{or-false}
+use Rattle.model.proofs.TwoRuns.{Alike, two-runs}
 
 -- ---- two states between calls
 

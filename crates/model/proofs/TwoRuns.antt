@@ -2,10 +2,9 @@
 -- relation, unless it is left out, both runs end alike and in the relation. Demand 3 is one instance; the relation, what is left
 -- out of the questions and what of the edits are parameters.
 -- Assumes nothing.
-use mathlib.Core.Bool.{Bool, true, false, _||_}
+use mathlib.Core.Bool.{Bool, false, _||_}
 use mathlib.Core.Path.{_≡_, refl}
-use Prim.Native.Nat.{ℕ}
-use native.Mathlib.Omega.{arith}
+use Rattle.path.proofs.Following.{or-false}
 use Rattle.model.specs.Prog.{World, Ask, answer, Edit, apply, Prog, ret, stop, ask, edit, Out, done, refused, run}
 
 -- a program's questions and edits, as the first run goes, on both worlds as they then are: whether one of them is left out
@@ -21,10 +20,6 @@ Alike R (done a w) (done b v) = (a ≡ b) × R w v
 Alike R (done a w) (refused n) = ⊥
 Alike R (refused m) (done b v) = ⊥
 Alike R (refused m) (refused n) = m ≡ n
-
-pub or-false : (a b : Bool) → a || b ≡ false → (a ≡ false) × (b ≡ false)
-or-false true b e = absurd (let z : _≡_ {A = ℕ} 0 1 = cc in omega arith)
-or-false false b e = (refl, e)
 
 module _ (R : World → World → Type 0) (asks : Ask → World → World → Bool) (edits : Edit → World → World → Bool)
     (asked : (q : Ask) (w v : World) → R w v → asks q w v ≡ false → answer q w ≡ answer q v)

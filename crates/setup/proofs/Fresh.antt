@@ -2,7 +2,7 @@
 -- Assumes nothing.
 use mathlib.Core.List.{List, _∷_, _++_}
 use mathlib.Core.Path.{_≡_, _∙_, refl, sym, ap}
-use Prim.Native.Nat.{ℕ, zero, suc, _+_, _-_, _*_, _≤_}
+use Prim.Native.Nat.{ℕ, _+_, _-_, _*_, _≤_}
 use native.Mathlib.Omega.{arith}
 use lib.IntN.{ℤ}
 use lib.ListN.{length, take, drop, getD, set, replicate, length-replicate, length-append, length-drop}
@@ -10,14 +10,9 @@ use lib.Seq.{take-append-seam, drop-append-seam, length-take-le, getD-drop}
 use Rattle.text.specs.Utf8.{Bytes}
 use Rattle.layout.specs.Store.{Store, lent, cut, spare}
 use Rattle.layout.specs.Lawful.{Long}
+use Rattle.layout.proofs.Zeros.{zeros-read}
 use Rattle.setup.specs.SetUp.{freshWords}
 use Rattle.setup.proofs.Blank.{Blank}
-
--- all zeros: nothing else is ever read
-zeros-read : (n i : ℕ) → _≡_ {A = ℕ} (getD (replicate n 0) i 0) 0
-zeros-read zero i = refl
-zeros-read (suc n) zero = refl
-zeros-read (suc n) (suc i) = zeros-read n i
 
 -- the words of a fresh state
 abbrev front : ℕ → ℕ → List ℕ

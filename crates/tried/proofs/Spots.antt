@@ -1,24 +1,20 @@
 -- Where an entry is put in or taken out, by what the functions of `find` answer: the place before the record where a name is missing
 -- is vacant, and the records up to the end of a block are an entry with all below it.
 -- Assumes nothing.
-use mathlib.Core.Bool.{_&&_}
 use mathlib.Core.List.{List, [], _∷_}
 use mathlib.Core.Path.{_≡_, refl, sym, ap, _∙_, subst}
-use Prim.Native.Nat.{ℕ, zero, suc, _+_, _-_, _≤_, _<_}
+use Prim.Native.Nat.{ℕ, zero, suc, _+_, _-_, _<_}
 use native.Mathlib.Omega.{arith}
-use lib.Dec.{T, leb}
+use lib.Dec.{T}
 use lib.ListN.{length, take, drop, getD}
 use lib.Seq.{take-all}
-use borrow.Author.Tests.{leb-true}
 use Rattle.text.specs.Utf8.{Bytes, text}
-use Rattle.path.specs.Path.{Name, pieces, proper}
+use Rattle.path.specs.Path.{Name, pieces}
 use Rattle.path.specs.Backward.{part}
 use Rattle.path.specs.Answer.{PieceIs}
 use Rattle.path.proofs.Cutting.{NoSlash, pieces-no-slash}
 use Rattle.path.proofs.Every.{Every}
-use Rattle.path.proofs.Laws.{and-left, and-right}
 use Rattle.model.specs.Rules.{nameOk}
-use Rattle.model.proofs.Entries.{is-true}
 use Rattle.layout.specs.Fields.{depthOf}
 use Rattle.layout.specs.Rows.{nameTotal}
 use Rattle.layout.specs.Store.{Store, count, rowsOf, kindAt}
@@ -75,7 +71,3 @@ block-of st l i e h a z =
       behind = b .beyond;
     } in
     subst (Block st i) (sym z) w
-
-pub name-short : (x : Name) → T (nameOk x) → length x ≤ 255
-unfolding nameOk
-name-short x t = leb-true (length x) 255 (is-true (leb (length x) 255) (and-left (leb (length x) 255) (text x) (and-right (proper x) (leb (length x) 255 && text x) t)))

@@ -2,19 +2,14 @@
 -- Assumes nothing.
 use mathlib.Core.Bool.{Bool, true, false}
 use mathlib.Core.List.{List}
-use mathlib.Core.Path.{_≡_, refl}
-use Prim.Native.Nat.{ℕ, zero, suc, _≤_}
+use mathlib.Core.Path.{_≡_}
+use Prim.Native.Nat.{ℕ, _≤_}
 use native.Mathlib.Omega.{arith}
-use lib.ListN.{length, getD, replicate}
+use lib.ListN.{length, getD}
 use Rattle.layout.specs.Fields.{slotOf}
 use Rattle.marks.specs.Uses.{usesIn, Within, MarkedBy}
 use Rattle.used.specs.Unnamed.{unnamed, unmarkedBytes}
 use Rattle.used.proofs.Sums.{alone-same}
-
-pub zeros-read : (n k : ℕ) → _≡_ {A = ℕ} (getD (replicate n 0) k 0) 0
-zeros-read zero k = refl
-zeros-read (suc n) zero = refl
-zeros-read (suc n) (suc k) = zeros-read n k
 
 pub counted-alone : (ws hs ms : List ℕ) (b : Bool) → Within (length hs) ws → ((k : ℕ) → usesIn k ws ≤ 1) → MarkedBy ws ms b → unmarkedBytes ms hs ≡ unnamed ws hs
 counted-alone ws hs ms true w o h = alone-same (λ k. getD ms k 0) (λ k. usesIn k ws) hs (length hs) 0 (λ i. h i .0)

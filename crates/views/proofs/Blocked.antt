@@ -22,7 +22,7 @@ use Rattle.layout.proofs.Rising.{before-both, Rises, Follows, aside, below, fol
 use Rattle.layout.proofs.Walks.{At, look-at, at-rises, rest-ok}
 use Rattle.views.specs.Parts.{pathAfter, dirAfter, Deeper, NotDeeper}
 use Rattle.views.proofs.Parted.{walk-both, SameStart, MayStand}
-use Rattle.views.proofs.Removing.{kept-names, follows-low, walk-follows, next-keeps, below-keeps, Beyond, beyond-rises, beyond-behind, beyond-aside, begins}
+use Rattle.views.proofs.Removing.{kept-names, follows-low, walk-follows, next-keeps, below-keeps, Beyond, beyond-rises, beyond-behind, beyond-aside, begins, walk-rises}
 
 -- the name at a place of a path with one more behind
 getD-kept : (d j : ℕ) (p : Path) (x : Name) → j < d → d ≤ length p → getD (take d p ++ (x ∷ [])) j [] ≡ getD p j []
@@ -30,7 +30,7 @@ getD-kept d j p x h k =
     let e : take (suc j) (take d p ++ (x ∷ [])) ≡ take (suc j) p = kept-names (suc j) d p x (omega arith) k in
     sym (getD-take (suc j) (take d p ++ (x ∷ [])) j [] (omega arith)) ∙ (ap (λ (q : Path). getD q j []) e ∙ getD-take (suc j) p j [] (omega arith))
 
-getD-last : (d : ℕ) (p : Path) (x : Name) → d ≤ length p → getD (take d p ++ (x ∷ [])) d [] ≡ x
+pub getD-last : (d : ℕ) (p : Path) (x : Name) → d ≤ length p → getD (take d p ++ (x ∷ [])) d [] ≡ x
 getD-last d p x h =
     ap (λ (k : ℕ). getD (take d p ++ (x ∷ [])) k []) (sym (length-take-le d p h)) ∙ getD-append-seam (take d p) x [] []
 
@@ -90,7 +90,7 @@ module _ (kind : ℕ → ℕ) (n : ℕ) (p : Path) (e : Bool) (row : Row) (x b :
   first-next r c f =
       let y = subst (λ (l : List Row). T (walkOk kind n end (dirAfter kind (eqb (kind (row .slot)) 1) x) l)) f behind-ok in
       let z = subst (NotDeeper (suc d)) f nb in
-      next r (r .depth) refl z (follows-by end _ (r .depth) (r .name) (walk-follows kind n end _ r c y))
+      next r (r .depth) refl z (walk-rises kind n end _ r c y)
 
   start-at : (r : Row) → Next r → pathOf p r ≡ pathOf end r
   start-at r y =

@@ -96,6 +96,9 @@ walk-start kind n p q d e (r ∷ b) h m t =
 abbrev pub Has : List Row → ℕ → Type 0
 Has rs k = 1 ≤ uses k rs
 
+pub has-first : (a b : List Row) (k : ℕ) → Has a k → Has (a ++ b) k
+has-first a b k u = omega (arith, uses-both k a b)
+
 has-here : (r : Row) (rs : List Row) → Has (r ∷ rs) (r .slot)
 unfolding uses
 has-here r rs = rw (eq-eqb (r .slot) (r .slot) refl) (omega arith)

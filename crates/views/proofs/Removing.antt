@@ -41,6 +41,9 @@ module _ (kind : ℕ → ℕ) (n : ℕ) where
   pub walk-follows : (p : Path) (d : Bool) (r : Row) (rs : List Row) → T (walkOk kind n p d (r ∷ rs)) → T (follows p d (r .depth) (r .name))
   walk-follows p d r rs t = and-right (nameOk (r .name)) _ (and-right (ltb (r .slot) n) _ (first-ok kind n p d r rs t))
 
+  pub walk-rises : (p : Path) (d : Bool) (r : Row) (rs : List Row) → T (walkOk kind n p d (r ∷ rs)) → Follows p d (r .name) (r .depth)
+  walk-rises p d r rs t = follows-by p d (r .depth) (r .name) (walk-follows p d r rs t)
+
   -- one entry deeper than m names keeps the first m
   pub next-keeps : (m : ℕ) (p : Path) (d : Bool) (r : Row) (k : ℕ) → r .depth ≡ k → m < k → T (follows p d k (r .name)) → take m (pathBy k p (r .name)) ≡ take m p
   next-keeps m p d r zero e h t = absurd (omega arith)

@@ -9,14 +9,14 @@ use lib.ListN.{length, length-replicate}
 use borrow.Author.Needs.{needs}
 use borrow.Author.Tests.{not-true, not-false}
 use Rattle.marks.specs.Uses.{NamedBy, OpenedBy}
-use Rattle.marks.proofs.Counting.{all-zero}
+use Rattle.layout.proofs.Zeros.{zeros-read}
 use Rattle.marks.proofs.Filled.{filled-none}
 use Rattle.marks.proofs.Taking.{slots-counted}
 use Rattle.marks.proofs.slots_ok.Statement.{statement}
 use Rattle.marks.proofs.slots_ok.Tie as tie
 
 take-named-requires : tie.Need-take-named-requires
-take-named-requires c κs = let s = c .before .before .before .before in (s .pre .1, s .pre .2, length-replicate {A = ℕ} 4128 0, all-zero 4128, filled-none 4128)
+take-named-requires c κs = let s = c .before .before .before .before in (s .pre .1, s .pre .2, length-replicate {A = ℕ} 4128 0, zeros-read 4128, filled-none 4128)
 
 returns : tie.Need-returns
 returns c = let a = c .before .before .before .before .before .before .args in let m = c .before .take-named in

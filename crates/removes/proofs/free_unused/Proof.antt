@@ -6,13 +6,13 @@ use native.Mathlib.Omega.{arith}
 use lib.ListN.{length-replicate}
 use lib.Seq.{length-take-le}
 use borrow.Author.Needs.{needs}
-use Rattle.marks.proofs.Counting.{all-zero}
+use Rattle.layout.proofs.Zeros.{zeros-read}
 use Rattle.removes.proofs.Clears.{all-marked, used-swept}
 use Rattle.removes.proofs.free_unused.Statement.{statement}
 use Rattle.removes.proofs.free_unused.Tie as tie
 
 mark-records-requires : tie.Need-mark-records-requires
-mark-records-requires c κs = ((λ i h. omega (arith, c .before .before .before .before .before .pre .3 i h, c .before .before .before .before .before .pre .2)), length-replicate {A = ℕ} 4128 0, all-zero 4128)
+mark-records-requires c κs = ((λ i h. omega (arith, c .before .before .before .before .before .pre .3 i h, c .before .before .before .before .before .pre .2)), length-replicate {A = ℕ} 4128 0, zeros-read 4128)
 
 mark-numbers-requires : tie.Need-mark-numbers-requires
 mark-numbers-requires c κs = let s = c .before .before .before .before .before .before .before in let m = c .before .mark-records in

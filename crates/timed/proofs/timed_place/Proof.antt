@@ -5,7 +5,7 @@ use native.Mathlib.Omega.{arith}
 use lib.ListN.{length}
 use borrow.Author.Needs.{needs}
 use borrow.Author.Tests.{not-false}
-use Rattle.tried.proofs.Spots.{name-short}
+use Rattle.edits.proofs.Inserts.{name-short}
 use Rattle.timed.proofs.timed_place.Statement.{statement}
 use Rattle.timed.proofs.timed_place.Tie as tie
 

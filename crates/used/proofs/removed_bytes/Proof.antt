@@ -1,14 +1,11 @@
 -- `removed_bytes` meets its contract: a mark is the number of records that have its slot. Assumes nothing.
 use mathlib.Core.Path.{_∙_, refl}
 use native.Mathlib.Omega.{arith}
-use Rattle.used.proofs.Marked.{zeros-read, counted-alone}
+use Rattle.layout.proofs.Zeros.{zeros-read}
+use Rattle.used.proofs.Marked.{counted-alone}
 use borrow.Author.Needs.{needs}
 use Rattle.used.proofs.removed_bytes.Statement.{statement}
 use Rattle.used.proofs.removed_bytes.Tie as tie
-use Rattle.used.proofs.removed_bytes.Reads as reads
-use Rattle.used.proofs.removed_bytes.Lts as lts
-use Rattle.marks.proofs.mark_records.Reads as mark-records-reads
-use Rattle.used.proofs.unmarked.Reads as unmarked-reads
 
 mark-records-requires : tie.Need-mark-records-requires
 mark-records-requires c κs =

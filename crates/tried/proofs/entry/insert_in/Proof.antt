@@ -1,7 +1,7 @@
 -- `insert_in` asks what the edit asks, and the edit leaves a lawful store.
 -- Assumes nothing.
 use borrow.Author.Tests.{not-false}
-use Rattle.tried.proofs.Spots.{name-short}
+use Rattle.edits.proofs.Inserts.{name-short}
 use borrow.Author.Needs.{needs}
 use Rattle.tried.proofs.entry.insert_in.Statement.{statement}
 use Rattle.tried.proofs.entry.insert_in.Tie as tie
