@@ -198,6 +198,11 @@ static void texts(void) {
     Text mixed = repeated("/y26/caf\xc3\xa9/\xe6\x97\xa5\xe6\x9c\xac/\xf0\x9f\x98\x80 ok", 1024);
     line("text: ASCII", our_text, their_text, (Input){&ascii, 0, 0}, 0.6);
     line("text: an ASCII path of 28 bytes", our_text, their_text, (Input){&path, 0, 0}, 0.6);
+    Text one = text_of("a"), small = text_of("/a"), moon = text_of("/y26/moon"), cafe = text_of("caf\xc3\xa9");
+    line("text: a", our_text, their_text, (Input){&one, 0, 0}, 0.6);
+    line("text: /a", our_text, their_text, (Input){&small, 0, 0}, 0.6);
+    line("text: /y26/moon", our_text, their_text, (Input){&moon, 0, 0}, 0.6);
+    line("text: café", our_text, their_text, (Input){&cafe, 0, 0}, 3);
     line("text: characters of 2 bytes", our_text, their_text, (Input){&two, 0, 0}, 3);
     line("text: characters of 3 bytes", our_text, their_text, (Input){&three, 0, 0}, 3);
     line("text: characters of 4 bytes", our_text, their_text, (Input){&four, 0, 0}, 3);
@@ -210,6 +215,9 @@ static void lengths(void) {
     line("lengths: names of 249 bytes", our_lengths, their_lengths, (Input){&long_names, 0, 0}, 0);
     line("lengths: a path of 28 bytes", our_lengths, their_lengths, (Input){&path, 0, 0}, 0);
 }
+
+/* Paths of few bytes, which pay for the call. */
+static const char *const SHORT[] = {"a", "/a", "..", "/a/", "/..", "./a", "/a/b", "/.x", "a/..", "/a/./b"};
 
 static void normalizing(void) {
     Text two = names(2, 1000), eight = names(8, 1000), long_names = names(249, 1000);
@@ -241,7 +249,13 @@ static void normalizing(void) {
     line("normalize: /y26/moon/../a/b", our_normalize, their_normalize, (Input){&up_path, 0, 0}, 3);
     line("normalize: moon/../jan.txt", our_normalize, their_normalize, (Input){&up_relative, 0, 0}, 3);
     line("normalize: /a/../b", our_normalize, their_normalize, (Input){&up_short, 0, 0}, 3);
-    line("normalize: /", our_normalize, their_normalize, (Input){&root, 0, 0}, 0);
+    line("normalize: /", our_normalize, their_normalize, (Input){&root, 0, 0}, 3);
+    for (size_t i = 0; i < sizeof SHORT / sizeof *SHORT; i++) {
+        char name[64];
+        Text t = text_of(SHORT[i]);
+        snprintf(name, sizeof name, "normalize: %s", SHORT[i]);
+        line(name, our_normalize, their_normalize, (Input){&t, 0, 0}, 3);
+    }
 }
 
 /* Set times' reading, beside the Rust's normalising: the Rust has no such function. */

@@ -5,8 +5,14 @@
 
 The form of a line and of an answer is that of crates/replay/src/main.rt.
 """
+import os
 import re
 import sys
+
+sys.dont_write_bytecode = True
+sys.path.insert(0, os.path.join(os.path.dirname(os.path.abspath(__file__)), 'store'))
+
+from reader import is_text
 
 LONGEST = 1024
 
@@ -32,14 +38,6 @@ def decode(field):
         if len(out) > 4096:
             return None
     return bytes(out)
-
-
-def is_text(s):
-    try:
-        s.decode('utf-8', 'strict')
-    except UnicodeDecodeError:
-        return False
-    return 0 not in s
 
 
 def has_lengths(s):

@@ -1,4 +1,5 @@
-"""Reads a store and tests its rules, written from docs/LAYOUT.md alone, without the code or the definitions of the project.
+"""Reads a store and tests its rules, written from docs/LAYOUT.md and not from the definitions, the
+proofs or the code of the test of refusal 1.
 
 `broken(store)` is the list of the rules of that page that the store breaks; `tree(store)` is what a store that breaks none holds.
 """
