@@ -53,13 +53,10 @@ fn form_middle(out: &mut [u8], path: &[u8], strike: bool) -> Formed
 }
 
 // Whether a text is read from the front: it is known to have no `..`, since no two dots stand side by side, and below 1,024
-// bytes, so that what it keeps cannot be too long. From 2 to 63 bytes the test costs more than it saves.
+// bytes, so that what it keeps cannot be too long. Below 64 bytes the test costs more than it saves.
 fn reads_forward(s: &[u8]) -> bool
     ensures { λ r. ⌜ (r ≡ true → (length (now (s .entry)) < 1024) × Clean 46 (now (s .entry)) 0 (length (now (s .entry)) - 1)) ⌝ }
 {
-    if s.len() < 2 {
-        return true;
-    }
     if s.len() < 64 {
         return false;
     }

@@ -5,11 +5,14 @@ ghost use lib.ListN.{length};
 ghost use Rattle.path.specs.Answer.{Forms};
 ghost use Rattle.path.specs.Path.{names, norm, normal, absolute, isAbsolute, body};
 use crate::alone::form;
+use crate::few::form_few;
+use crate::few::form_one;
 use names::sifting::measure;
 use names::sifting::put_kept;
 use path::answer::Formed;
 
 pub mod alone;
+pub mod few;
 pub mod last;
 pub mod link;
 
@@ -46,10 +49,17 @@ fn join(out: &mut [u8], dir: &[u8], path: &[u8]) -> Formed
     Formed::Text(len)
 }
 
+// A path of one byte is formed here, so that the compiler can put it into the caller: a second call takes longer than the byte.
 pub fn normalize_path(out: &mut [u8], path: &[u8]) -> Formed
     requires { ⌜ 1024 ≤ length (now out) ⌝ }
     ensures { λ r. ⌜ Forms (body (normal (now (path .entry)))) (now (out .entry)) (now (out .exit)) r ⌝ }
 {
+    if path.len() == 1 {
+        return form_one(out, path[0]);
+    }
+    if path.len() < 4 {
+        return form_few(out, path, true);
+    }
     form(out, path, true)
 }
 
@@ -68,5 +78,11 @@ pub fn raw_path(out: &mut [u8], path: &[u8]) -> Formed
     requires { ⌜ 1024 ≤ length (now out) ⌝ }
     ensures { λ r. ⌜ Forms (body (names (now (path .entry)))) (now (out .entry)) (now (out .exit)) r ⌝ }
 {
+    if path.len() == 1 {
+        return form_one(out, path[0]);
+    }
+    if path.len() < 4 {
+        return form_few(out, path, false);
+    }
     form(out, path, false)
 }

@@ -3,7 +3,7 @@
 use mathlib.Core.Bool.{Bool, true, false, _||_, true≢false}
 use mathlib.Core.List.{[], _∷_}
 use mathlib.Core.Path.{_≡_, refl, ap, _∙_}
-use Prim.Native.Nat.{ℕ, zero, suc, _+_, _≤_}
+use Prim.Native.Nat.{ℕ, zero, suc, _+_, _-_, _/_, _≤_, _<_}
 use native.Mathlib.Omega.{arith}
 use lib.Dec.{eqb, leb, ltb}
 use lib.ListN.{length, drop, getD, drop-of-length-le}
@@ -53,3 +53,14 @@ plain-drop (suc n) (b ∷ s) h p =
 pub plain-text : (s : Bytes) → Plain s 0 (length s) → text s ≡ true
 unfolding text octets
 plain-text s p = plain-drop (length s) s (omega arith) p ∙ ap text (drop-of-length-le s {i = length s} (omega arith))
+
+-- three octets at most: the first, the one in the middle and the last are all
+pub plain-three : (s : Bytes) (n : ℕ) → n < 4 → odd (getD s 0 0) ≡ false → odd (getD s (n / 2) 0) ≡ false → odd (getD s (n - 1) 0) ≡ false → Plain s 0 n
+plain-three s n h a b c zero k l = a
+plain-three s n h a b c (suc zero) k l =
+    let m : n / 2 ≡ 1 = omega arith in
+    rw m at b
+plain-three s n h a b c (suc (suc zero)) k l =
+    let m : n - 1 ≡ 2 = omega arith in
+    rw m at c
+plain-three s n h a b c (suc (suc (suc j))) k l = absurd (omega arith)

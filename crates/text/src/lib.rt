@@ -1,5 +1,5 @@
 // Text of a path or a target (refusal 2): RFC 3629, without the zero byte.
-ghost use mathlib.Core.Bool.{true};
+ghost use mathlib.Core.Bool.{true, not};
 ghost use mathlib.Core.Path.{_≡_};
 ghost use Prim.Native.Nat.{_+_, _≤_, _<_};
 ghost use mathlib.Core.List.{[], _∷_};
@@ -7,7 +7,7 @@ ghost use lib.ListN.{length, drop, getD, replicate};
 ghost use Rattle.text.specs.Utf8.{tail, rows, starts, charLength, text};
 ghost use Rattle.text.specs.Classes.{classOf, table};
 ghost use Rattle.text.specs.Steps.{plain, secondOf};
-ghost use Rattle.text.specs.Looks.{Plain};
+ghost use Rattle.text.specs.Looks.{odd, Plain};
 
 // The class of each byte. 0 to 8: it begins that row of the RFC's grammar. 9 to 11: 80-8F, 90-9F, A0-BF, which continue a
 // character. 12: it stands in no valid text. A byte string, since the formatter gives each element of an array a line.
@@ -181,21 +181,49 @@ fn plain_front(s: &[u8]) -> usize
     i
 }
 
-// Whether those from a on are so too. Where 16 are left, the first of them are not. Else the last 16, or the first and the last 8,
-// are tested, though some were before: octets one by one take longer.
-fn plain_rest(s: &[u8], a: usize) -> bool
-    requires { ⌜ a ≤ length (now s) ⌝ }
-    ensures { λ r. ⌜ (r ≡ true → Plain (now (s .entry)) a (length (now (s .entry)))) ⌝ }
+// Whether the octet at i is ASCII and not zero.
+fn plain_at(s: &[u8], i: usize) -> bool
+    requires { ⌜ i < length (now s) ⌝ }
+    ensures { λ r. ⌜ r ≡ not (odd (getD (now (s .entry)) i 0)) ⌝ }
+{
+    let b = s[i];
+    !((b == 0) | (128 <= b))
+}
+
+// Whether the octets of a text below eight are so. Below four, the first, the one in the middle and the last are all there are;
+// else the first and the last four are. There is no loop, which would take longer than the octets do.
+fn few_plain(s: &[u8]) -> bool
+    requires { ⌜ length (now s) < 8 ⌝ }
+    ensures { λ r. ⌜ (r ≡ true → Plain (now (s .entry)) 0 (length (now (s .entry)))) ⌝ }
 {
     let n = s.len();
-    if 16 <= n - a {
+    if n < 4 {
+        if n == 0 {
+            return true;
+        }
+        if !plain_at(s, 0) {
+            return false;
+        }
+        if !plain_at(s, n / 2) {
+            return false;
+        }
+        return plain_at(s, n - 1);
+    }
+    if !all_plain(s, 0, 4) {
         return false;
     }
-    if 16 <= n {
-        return all_plain(s, n - 16, n);
-    }
+    all_plain(s, n - 4, n)
+}
+
+// Whether the octets of a text of 8 to 16 are so: the first and the last 8 are tested, though some are in both. A text below 8
+// has been looked at before.
+fn ends_plain(s: &[u8]) -> bool
+    requires { ⌜ length (now s) ≤ 16 ⌝ }
+    ensures { λ r. ⌜ (r ≡ true → Plain (now (s .entry)) 0 (length (now (s .entry)))) ⌝ }
+{
+    let n = s.len();
     if n < 8 {
-        return all_plain(s, a, n);
+        return false;
     }
     if !all_plain(s, 0, 8) {
         return false;
@@ -203,15 +231,47 @@ fn plain_rest(s: &[u8], a: usize) -> bool
     all_plain(s, n - 8, n)
 }
 
-// Whether s is text. Most text is ASCII, which a look tells. Else the table is copied, once and not at every octet, and what the
-// look passed does not decide.
+// Whether s is text from a on. The table is copied here, once and not at every octet.
+fn by_classes(s: &[u8], a: usize) -> bool
+    requires { ⌜ a ≤ length (now s) ⌝ }
+    ensures { λ r. ⌜ r ≡ text (drop a (now (s .entry))) ⌝ }
+{
+    let classes = CLASSES;
+    walk(&classes, &s[a..])
+}
+
+// Whether s is text, by a look at 16 octets at a time, which passes what is ASCII, and by the classes of those behind them. Of
+// the last 16 some were tested before: octets one by one take longer.
+fn by_look(s: &[u8]) -> bool
+    ensures { λ r. ⌜ r ≡ text (now (s .entry)) ⌝ }
+{
+    let n = s.len();
+    if n < 16 {
+        if ends_plain(s) {
+            return true;
+        }
+        return by_classes(s, 0);
+    }
+    let a = plain_front(s);
+    if 16 <= n - a {
+        return by_classes(s, a);
+    }
+    if all_plain(s, n - 16, n) {
+        return true;
+    }
+    by_classes(s, a)
+}
+
+// Whether s is text. Most text is ASCII, which a look tells. A short one is looked at here, so that the compiler can put the look
+// into the caller: a second call takes longer than its octets do.
 pub fn text_ok(s: &[u8]) -> bool
     ensures { λ r. ⌜ r ≡ text (now (s .entry)) ⌝ }
 {
-    let a = plain_front(s);
-    if plain_rest(s, a) {
+    if 7 < s.len() {
+        return by_look(s);
+    }
+    if few_plain(s) {
         return true;
     }
-    let classes = CLASSES;
-    walk(&classes, &s[a..])
+    by_look(s)
 }
