@@ -9,6 +9,8 @@
 
 uint32_t probe_text(const uint8_t *, size_t);
 uint32_t probe_lengths(const uint8_t *, size_t);
+uint32_t probe_nothing_text(const uint8_t *, size_t);
+uint64_t probe_nothing_path(uint8_t *, size_t, const uint8_t *, size_t);
 uint64_t probe_normalize(uint8_t *, size_t, const uint8_t *, size_t);
 uint64_t probe_raw(uint8_t *, size_t, const uint8_t *, size_t);
 uint64_t probe_absolute(uint8_t *, size_t, const uint8_t *, size_t, const uint8_t *, size_t);
@@ -81,6 +83,8 @@ static double now(void) {
         for (long k = 0; k < times; k++)                                                                               \
             sink += (call);                                                                                            \
     }
+LOOP(nothing_text, probe_nothing_text(i->a->at, i->a->n))
+LOOP(nothing_path, probe_nothing_path(out, ROOM, i->a->at, i->a->n))
 LOOP(our_text, probe_text(i->a->at, i->a->n))
 LOOP(their_text, rust_text(i->a->at, i->a->n))
 LOOP(our_lengths, probe_lengths(i->a->at, i->a->n))
@@ -124,7 +128,7 @@ static double time_of(Loop *loop, const Input *i) {
 
 static int missed;
 
-/* goal: nanoseconds a byte; 0: none is set. */
+/* theirs: 0 where Rust has nothing to stand beside it. goal: nanoseconds a byte; 0: none is set. */
 static void line(const char *name, Loop *ours, Loop *theirs, Input i, double goal) {
     size_t bytes = i.a->n + (i.b ? i.b->n : 0) + (i.target ? i.target->n : 0);
     double a = time_of(ours, &i);
@@ -134,13 +138,14 @@ static void line(const char *name, Loop *ours, Loop *theirs, Input i, double goa
         a -= time_of(our_normalize, &(Input){i.b, 0, 0});
     double each = a / (double)(bytes ? bytes : 1);
     printf("| %-52s | %5zu | %8.1f | %7.3f |", name, bytes, a, each);
-#ifdef WITH_RUST
-    double b = time_of(theirs, &i);
-    printf(" %8.1f | %5.2f |", b, a / b);
-#else
-    (void)theirs;
-    printf(" %8s | %5s |", "-", "-");
+#ifndef WITH_RUST
+    theirs = 0;
 #endif
+    if (theirs) {
+        double b = time_of(theirs, &i);
+        printf(" %8.1f | %5.2f |", b, a / b);
+    } else
+        printf(" %8s | %5s |", "-", "-");
     if (goal > 0)
         printf(" %4.1f %-6s |\n", goal, each <= goal ? "met" : "MISSED");
     else
@@ -191,6 +196,16 @@ static Text behind(const char *first, Text t) {
     return t;
 }
 
+/* What a call takes that looks at no byte, in the same loop: no line below can be under it. */
+static void calls(void) {
+    Text one = text_of("a");
+    line("call: nothing done, given a text", nothing_text, 0, (Input){&one, 0, 0}, 0);
+    line("call: nothing done, given a buffer and a path", nothing_path, 0, (Input){&one, 0, 0}, 0);
+}
+
+/* Texts below eight bytes, which are looked at without a loop. */
+static const char *const FEW[] = {"a", "/a", "a/b", "/a/b", "/a/bc", "/ab/cd", "/ab/cde"};
+
 static void texts(void) {
     Text ascii = names(8, 1024), path = text_of("/y26/moon/jan/notes/day1.txt");
     Text two = repeated("\xc3\xa9", 1024), three = repeated("\xe3\x81\x82", 1024),
@@ -198,9 +213,13 @@ static void texts(void) {
     Text mixed = repeated("/y26/caf\xc3\xa9/\xe6\x97\xa5\xe6\x9c\xac/\xf0\x9f\x98\x80 ok", 1024);
     line("text: ASCII", our_text, their_text, (Input){&ascii, 0, 0}, 0.6);
     line("text: an ASCII path of 28 bytes", our_text, their_text, (Input){&path, 0, 0}, 0.6);
-    Text one = text_of("a"), small = text_of("/a"), moon = text_of("/y26/moon"), cafe = text_of("caf\xc3\xa9");
-    line("text: a", our_text, their_text, (Input){&one, 0, 0}, 0.6);
-    line("text: /a", our_text, their_text, (Input){&small, 0, 0}, 0.6);
+    for (size_t i = 0; i < sizeof FEW / sizeof *FEW; i++) {
+        char name[64];
+        Text t = text_of(FEW[i]);
+        snprintf(name, sizeof name, "text: %s", FEW[i]);
+        line(name, our_text, their_text, (Input){&t, 0, 0}, 0.6);
+    }
+    Text moon = text_of("/y26/moon"), cafe = text_of("caf\xc3\xa9");
     line("text: /y26/moon", our_text, their_text, (Input){&moon, 0, 0}, 0.6);
     line("text: café", our_text, their_text, (Input){&cafe, 0, 0}, 3);
     line("text: characters of 2 bytes", our_text, their_text, (Input){&two, 0, 0}, 3);
@@ -295,6 +314,7 @@ int main(void) {
            "goal");
     printf("|:-----------------------------------------------------|------:|---------:|--------:|---------:|------:|:--"
            "----------|\n");
+    calls();
     texts();
     lengths();
     normalizing();

@@ -54,13 +54,13 @@ pub fn normalize_path(out: &mut [u8], path: &[u8]) -> Formed
     requires { ⌜ 1024 ≤ length (now out) ⌝ }
     ensures { λ r. ⌜ Forms (body (normal (now (path .entry)))) (now (out .entry)) (now (out .exit)) r ⌝ }
 {
+    if 3 < path.len() {
+        return form(out, path, true);
+    }
     if path.len() == 1 {
         return form_one(out, path[0]);
     }
-    if path.len() < 4 {
-        return form_few(out, path, true);
-    }
-    form(out, path, true)
+    form_few(out, path, true)
 }
 
 pub fn to_absolute_path(out: &mut [u8], cwd: &[u8], path: &[u8]) -> Formed
@@ -78,11 +78,11 @@ pub fn raw_path(out: &mut [u8], path: &[u8]) -> Formed
     requires { ⌜ 1024 ≤ length (now out) ⌝ }
     ensures { λ r. ⌜ Forms (body (names (now (path .entry)))) (now (out .entry)) (now (out .exit)) r ⌝ }
 {
+    if 3 < path.len() {
+        return form(out, path, false);
+    }
     if path.len() == 1 {
         return form_one(out, path[0]);
     }
-    if path.len() < 4 {
-        return form_few(out, path, false);
-    }
-    form(out, path, false)
+    form_few(out, path, false)
 }

@@ -35,6 +35,22 @@ pub extern "C" fn probe_text(s: &[u8]) -> u32
     2
 }
 
+// A call that does nothing, given what `probe_text` is given: how long a call takes that looks at no byte.
+#[no_mangle]
+pub extern "C" fn probe_nothing_text(s: &[u8]) -> u32
+    ensures { λ r. ⌜ r ≡ 0 ⌝ }
+{
+    0
+}
+
+// The same, given what `probe_normalize` is given.
+#[no_mangle]
+pub extern "C" fn probe_nothing_path(out: &mut [u8], path: &[u8]) -> u64
+    ensures { λ r. ⌜ (r ≡ 0) × (now (out .exit) ≡ now (out .entry)) ⌝ }
+{
+    0
+}
+
 // 0, or refusal 3.
 #[no_mangle]
 pub extern "C" fn probe_lengths(s: &[u8]) -> u32
