@@ -241,7 +241,7 @@ fn by_classes(s: &[u8], a: usize) -> bool
 }
 
 // Whether s is text, by a look at 16 octets at a time, which passes what is ASCII, and by the classes of those behind them. Of
-// the last 16 some were tested before: octets one by one take longer.
+// the last 16 some were tested before: octets one by one take longer. Below 32 there is no loop, as most paths are so short.
 fn by_look(s: &[u8]) -> bool
     ensures { λ r. ⌜ r ≡ text (now (s .entry)) ⌝ }
 {
@@ -251,6 +251,15 @@ fn by_look(s: &[u8]) -> bool
             return true;
         }
         return by_classes(s, 0);
+    }
+    if n < 32 {
+        if !all_plain(s, 0, 16) {
+            return by_classes(s, 0);
+        }
+        if all_plain(s, n - 16, n) {
+            return true;
+        }
+        return by_classes(s, 16);
     }
     let a = plain_front(s);
     if 16 <= n - a {
