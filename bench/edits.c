@@ -18,13 +18,13 @@ enum { RUNS = 200, MOST = 4096, SPARE = 32, NAME = 10, CELLS = 33792, ROOM = 104
 enum { DIRECTORY = 1, FILE_KIND = 2 };
 
 struct store {
-    uint64_t words[101], records[MOST], heads[MOST + SPARE];
+    uint64_t words[102], records[MOST], heads[MOST + SPARE];
     int64_t times[4 * (MOST + SPARE)];
     uint8_t paths[CELLS], bytes[ROOM];
 };
 static struct store made, st;
 #define LENT                                                                                                           \
-    st.words, 101, st.records, MOST, st.heads, MOST + SPARE, st.times, 4 * (MOST + SPARE), st.paths, CELLS, st.bytes,  \
+    st.words, 102, st.records, MOST, st.heads, MOST + SPARE, st.times, 4 * (MOST + SPARE), st.paths, CELLS, st.bytes,  \
         ROOM
 
 static uint8_t names[EDITS * NAME], text[KIB], other[KIB];
@@ -40,6 +40,7 @@ static void entry(uint64_t depth, uint64_t kind, uint64_t length, unsigned numbe
     uint64_t i = made.words[2]++, name = depth ? NAME : 0;
     char s[NAME + 1];
     made.records[i] = depth | name << 16 | i << 24;
+    made.words[101] = i + 1;
     made.heads[i] = length | kind << 24 | (uint64_t)0755 << 32;
     if (!depth)
         return;

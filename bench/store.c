@@ -11,7 +11,7 @@ uint32_t probe_store(const uint64_t *, size_t, const uint64_t *, size_t, const u
 enum { RUNS = 200, MOST = 4096, SPARE = 32, NAME = 10, CELLS = 33792, ROOM = 1048576 };
 enum { DIRECTORY = 1, FILE_KIND = 2, LINK = 3 };
 
-static uint64_t words[101], records[MOST], heads[MOST + SPARE];
+static uint64_t words[102], records[MOST], heads[MOST + SPARE];
 static int64_t times[4 * (MOST + SPARE)];
 static uint8_t paths[CELLS], bytes[ROOM];
 static size_t slots[MOST + SPARE]; /* the slot of each entry */
@@ -24,10 +24,10 @@ static double now(void) {
     return (double)t.tv_sec * 1e9 + (double)t.tv_nsec;
 }
 
-/* A fresh store. */
+/* A fresh store. What stands in the words of slots that it does not have is not 0. */
 static void set_up(size_t entries) {
     memset(words, 0, sizeof words);
-    memset(heads, 0, sizeof heads);
+    memset(heads, 0xff, sizeof heads);
     words[0] = limit = entries;
     words[1] = ROOM;
     words[3] = 0666;
@@ -55,6 +55,8 @@ static void entry(uint64_t depth, uint64_t kind, uint64_t length) {
     uint64_t i = words[2]++, name = depth ? NAME : 0;
     char s[NAME + 1];
     records[i] = depth | name << 16 | (uint64_t)slots[i] << 24;
+    for (; words[101] <= slots[i]; words[101]++)
+        heads[words[101]] = 0;
     heads[slots[i]] = length | kind << 24 | (uint64_t)0755 << 32;
     if (!depth)
         return;
@@ -131,7 +133,7 @@ static void chain(size_t n) {
 }
 
 static uint32_t test(void) {
-    return probe_store(words, 101, records, limit, heads, limit + SPARE, times, 4 * (limit + SPARE), paths, CELLS,
+    return probe_store(words, 102, records, limit, heads, limit + SPARE, times, 4 * (limit + SPARE), paths, CELLS,
                        bytes, ROOM);
 }
 

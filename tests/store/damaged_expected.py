@@ -9,12 +9,12 @@ import sys
 
 sys.dont_write_bytecode = True
 
-from reader import CELL, DIRECTORY, FILE, LINK, NUMBERS, PATHS, WORDS, Store, broken, tree
+from reader import CELL, DIRECTORY, EXTENT, FILE, LINK, NUMBERS, PATHS, WORDS, Store, broken, tree
 
 SLICES = ('words', 'records', 'heads', 'times', 'paths', 'bytes')
 # The storage of a case, of which the store of 16 entries and 256 bytes is given only as much as the page asks.
 LIMIT, ROOM = 16, 256
-STORAGE = (102, 4097, 4129, 16516, 33793, 4096)
+STORAGE = (103, 4097, 4129, 16516, 33793, 4096)
 GIVEN = (WORDS, LIMIT, LIMIT + NUMBERS, 4 * (LIMIT + NUMBERS), PATHS, ROOM)
 LETTERS = 1100
 UMASK = 438
@@ -41,7 +41,7 @@ SHOWN_DATA = b'full3y26selfnone../y26'
 
 
 def storage(sizes, limit, room):
-    """What set up leaves: no entry, no number open, every slot free. All else it leaves as it was: 77 or `?`, so nothing lawful."""
+    """What set up leaves: no entry, no number open, no slot. All else it leaves as it was: 77 or `?`, so nothing lawful."""
     words, records, heads, times, paths, data = sizes
     return Store([limit, room, 0, UMASK, 0] + [0] * (WORDS - 5) + [77] * (words - WORDS), [77] * records, [0] * heads, [0] * times,
                  bytearray(b'?' * paths), bytearray(b'?' * data))
@@ -52,7 +52,7 @@ def put_tree(store, made):
     names = [tuple(path.encode().split(b'/')[1:]) for path, _, _ in made]
     # Tuples of names compare name by name, so this is the order of a walk.
     order = sorted(range(len(made)), key=lambda slot: names[slot])
-    store.words[2] = len(made)
+    store.words[2] = store.words[EXTENT] = len(made)
     left = b''
     for i, slot in enumerate(order):
         name = names[slot][-1] if names[slot] else b''
@@ -71,8 +71,9 @@ def put_path(store, cell, path):
 
 
 def put_open(store):
-    """The current directory and the two open files of the program's `k`."""
+    """The current directory and the two open files of the program's `k`, which has two free slots behind them."""
     store.words[4:11] = [9, 5, 5, 17, 10, 0, 4]
+    store.words[EXTENT] = 12
     store.heads[9] = FILE << 24 | MODES[FILE] << 32
     put_path(store, 0, b'/y26/moon')
     put_path(store, 1, b'/y26/moon/jan.txt')
@@ -85,8 +86,8 @@ def example():
     slots = limit + NUMBERS
     store = storage((WORDS, limit, slots, 4 * slots, PATHS, room), limit, room)
     put_tree(store, MADE)
-    same = (store.words == SHOWN_WORDS + [0] * (WORDS - 5) and store.records[:len(MADE)] == SHOWN_RECORDS
-            and store.heads == SHOWN_HEADS + [0] * (slots - len(SHOWN_HEADS))
+    same = (store.words == SHOWN_WORDS + [0] * (EXTENT - 5) + [len(MADE)] and store.records[:len(MADE)] == SHOWN_RECORDS
+            and store.heads[:len(MADE)] == SHOWN_HEADS
             and store.bytes.startswith(SHOWN_NAMES) and store.bytes.endswith(SHOWN_DATA))
     return store, same
 
@@ -95,6 +96,7 @@ def made_store(holds):
     store = storage(STORAGE, LIMIT, ROOM)
     if holds == 'root':
         put_tree(store, MADE[:1])
+        store.words[EXTENT] = 2
     if holds == 'k':
         put_tree(store, MADE)
         put_open(store)

@@ -318,6 +318,13 @@ def longer_slices(draft, rng):
     return True
 
 
+def other_extent(draft, rng):
+    """Free slots at the end, or slots in use that are behind the end."""
+    left = draft.limit + NUMBERS - draft.extent()
+    draft.behind += rng.choice([-3, -2, -1, -1, 1, 1, 2, 3, left - 1, left, left + 1])
+    return True
+
+
 def other_umask(draft, rng):
     draft.umask = rng.choice([0, 0o22, 2 ** 32 - 1, 2 ** 31, 2 ** 32, 2 ** 32 + 0o22, 2 ** 63, WORD])
     return True
@@ -375,7 +382,7 @@ def any_word(draft, rng):
     entries, limit = len(draft.entries), min(draft.limit, 64)
     place = rng.choice(['words', 'records', 'records', 'heads', 'heads'])
     if place == 'words':
-        return place, rng.choice([0, 1, 2, 3, 4, 5, 6, 7, 8, 9, 10, 11, 12, 13, 98, 99, 100, 101])
+        return place, rng.choice([0, 1, 2, 3, 4, 5, 6, 7, 8, 9, 10, 11, 12, 13, 98, 99, 100, 101, 101, 102])
     if place == 'records':
         return place, rng.randrange(entries + 1)
     return place, rng.choice([*draft.slots, rng.randrange(limit + NUMBERS + 2)])
@@ -396,7 +403,7 @@ def edge_word(draft, words, rng):
 
 def by_one(draft, words, rng):
     """A field of a word one more or one less, or a count."""
-    key = rng.choice([('words', 0), ('words', 2), ('words', 4), ('words', 5), ('words', 7), ('words', 8), ('words', 10),
+    key = rng.choice([('words', 0), ('words', 2), ('words', 101), ('words', 4), ('words', 5), ('words', 7), ('words', 8), ('words', 10),
                       any_word(draft, rng)])
     if now(draft, words, key) is None:
         return False
@@ -432,7 +439,7 @@ def poke_path(draft, words, rng):
 def path_length(draft, words, rng):
     """The length of a kept path alone."""
     key = rng.choice([('words', 4)] + [('words', 7 + 3 * n) for n in draft.numbers])
-    words[key] = rng.choice([0, 1, 2, 3, 5, 1023, 1024, 1025, 2 ** 32, 2 ** 63, WORD, now(draft, words, key) + 1])
+    words[key] = rng.choice([0, 1, 2, 3, 5, 1023, 1024, 1025, 2 ** 32, 2 ** 63, WORD, now(draft, words, key) + 1 & WORD])
     return True
 
 
@@ -441,8 +448,9 @@ def unread(draft, words, rng):
     closed = [n for n in range(NUMBERS) if n not in draft.numbers]
     n = rng.choice(closed or [0])
     names, value = sum(len(e[1]) for e in draft.entries), rng.choice(EDGES)
-    key = rng.choice([('records', len(draft.entries) + rng.randrange(3)), ('words', 6 + 3 * n), ('words', 7 + 3 * n), ('words', 101),
-                      ('times', rng.randrange(200)), ('bytes', names), ('heads', draft.limit + NUMBERS), ('words', 6)])
+    key = rng.choice([('records', len(draft.entries) + rng.randrange(3)), ('words', 6 + 3 * n), ('words', 7 + 3 * n), ('words', 102),
+                      ('times', rng.randrange(200)), ('bytes', names), ('heads', draft.limit + NUMBERS), ('words', 6),
+                      ('heads', draft.extent()), ('heads', draft.extent() + rng.randrange(4))])
     words[key] = value % (256 if key[0] == 'bytes' else 2 ** 63)
     return True
 
@@ -450,7 +458,7 @@ def unread(draft, words, rng):
 DRAFTED = {
     rename: 8, rename_as_other: 5, exchange_entries: 2, other_depth: 2, exchange_names: 2, add_entry: 7, remove_entry: 6,
     exchange_slots: 4, slot_twice: 2, move_slot: 7, far_slot: 1, other_kind: 3, stray_slot: 3, retarget: 10, refill: 7, remode: 3,
-    other_limit: 4, other_room: 4, longer_slices: 3, other_umask: 3, change_directory: 8, reopen: 6, open_number: 6, close_number: 4,
+    other_limit: 4, other_room: 4, longer_slices: 3, other_extent: 5, other_umask: 3, change_directory: 8, reopen: 6, open_number: 6, close_number: 4,
 }
 POKED = {flip: 8, edge_word: 4, by_one: 5, cut: 3, poke_byte: 8, poke_path: 5, path_length: 3, unread: 7}
 

@@ -4,7 +4,7 @@ A draft need not obey any rule. `written(draft)` gives every word that it asks f
 line begins with.
 """
 from damaged_expected import BASES, GIVEN, LETTERS, LIMIT, ROOM, SLICES, UMASK, Store
-from reader import CELL, NUMBERS, tree
+from reader import CELL, EXTENT, NUMBERS, tree
 
 WORD = 2 ** 64 - 1
 
@@ -18,6 +18,7 @@ class Draft:
         self.room = room
         self.umask = UMASK
         self.spare = 0
+        self.behind = 0
         self.entries = []
         self.slots = {}
         self.numbers = {}
@@ -31,6 +32,11 @@ class Draft:
 
     def free_slots(self):
         return [k for k in range(min(self.limit, 4096) + NUMBERS) if k not in self.slots]
+
+    def extent(self):
+        """The number of slots: up to the last in use that the limit allows, and as many more or fewer as `behind` says."""
+        edge = self.limit + NUMBERS
+        return max(0, max((k + 1 for k in self.slots if k < edge), default=0) + self.behind)
 
     def paths(self):
         """The names of the path of each entry, as far as the depths leave any."""
@@ -67,6 +73,7 @@ def written_words(draft):
             yield from zip(range(5 + 3 * n, 8 + 3 * n), [slot + 1 & WORD, position, len(path)])
         else:
             yield 5 + 3 * n, 0
+    yield EXTENT, draft.extent()
 
 
 def written_bytes(draft):

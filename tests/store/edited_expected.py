@@ -135,6 +135,10 @@ class Store:
         taken = {node.slot for node in self.nodes()}
         return next(k for k in range(ENTRY_LIMIT + NUMBERS) if k not in taken)
 
+    def slots(self):
+        """One more than the last slot in use."""
+        return max((node.slot + 1 for node in self.nodes()), default=0)
+
     # What an edit needs.
 
     def record(self, at):
@@ -334,7 +338,7 @@ def store_text(store):
         opened = store.opened[n]
         out.append('number %d at %d on %s%s\n' % (n, opened.position, short(opened.path), node_text(opened.file)))
     out.append('umask %s, current %s\n' % (mode_text(store.umask), short(store.current) or '/'))
-    out.append('entries %d, bytes %d + %d\n' % (len(records), store.name_bytes(), store.text_bytes()))
+    out.append('entries %d, bytes %d + %d, slots %d\n' % (len(records), store.name_bytes(), store.text_bytes(), store.slots()))
     return ''.join(out)
 
 

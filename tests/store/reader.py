@@ -5,7 +5,8 @@ proofs or the code of the test of refusal 1.
 """
 from collections import Counter, namedtuple
 
-WORDS = 101
+WORDS = 102
+EXTENT = 101
 NUMBERS = 32
 CELL = 1024
 PATHS = (NUMBERS + 1) * CELL
@@ -60,14 +61,14 @@ def mode_of(head):
 # What can be read once rules 1 and 2 hold.
 
 class View:
-    """The parts of the slices that the limits and the count leave."""
+    """The parts of the slices that the limits, the count and the number of slots leave."""
 
     def __init__(self, store):
-        limit, room, count = store.words[:3]
+        room, count = store.words[1:3]
         self.store = store
         self.room = room
         self.records = store.records[:count]
-        self.heads = store.heads[:limit + NUMBERS]
+        self.heads = store.heads[:store.words[EXTENT]]
         self.holders = [store.words[5 + 3 * n] for n in range(NUMBERS)]
 
     def kind(self, slot):
@@ -149,7 +150,8 @@ def breaks_limits(store):
     if len(store.words) < WORDS:
         return False
     limit, room, count, umask = store.words[:4]
-    return not (1 <= limit <= 4096 and 256 <= room <= 1048576 and count <= limit and umask < 2 ** 32)
+    return not (1 <= limit <= 4096 and 256 <= room <= 1048576 and count <= limit and umask < 2 ** 32
+                and store.words[EXTENT] <= limit + NUMBERS)
 
 
 def breaks_total(view):

@@ -2,15 +2,15 @@
 -- Assumes nothing.
 use mathlib.Core.Bool.{Bool, true, false, _&&_, true≢false, false≢true}
 use mathlib.Core.List.{[], _∷_, _++_}
-use mathlib.Core.Path.{_≡_, refl, sym, ap, _∙_}
-use Prim.Native.Nat.{ℕ, _≤_, _<_}
+use mathlib.Core.Path.{_≡_, refl, sym}
+use Prim.Native.Nat.{ℕ, _≤_}
 use native.Mathlib.Omega.{arith}
 use lib.Dec.{eqb}
 use lib.ListN.{length, getD, drop, set}
 use borrow.Author.Tests.{ne-eqb, eqb-true, eqb-false}
 use Rattle.text.specs.Utf8.{Bytes}
 use Rattle.path.specs.Path.{cut, pieces, same, vanishes, isUp, body}
-use Rattle.path.specs.Backward.{kindBy, kindOf, mk, siftOne, sift, sifted}
+use Rattle.path.specs.Backward.{kindOf, mk, sift, sifted}
 use Rattle.path.specs.Answer.{Forms}
 use Rattle.path.specs.declared.answer.Formed.the-variants.{Text}
 use Rattle.path.proofs.Dots.{kind-other, kind-two, kind-named, kind-long}

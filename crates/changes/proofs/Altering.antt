@@ -117,6 +117,7 @@ module _ (c : Change) (st : Store) (hs : List ℕ) (ts : List ℤ) (bs : Bytes) 
           entryLimit = l .entryLimit;
           byteLimit = l .byteLimit;
           counted = l .counted;
+          slotted = l .slotted;
           space = x .space;
           entries =
               (let e : rowsOk (kindAt u) (length hs) (rowsOf u) ≡ rowsOk (kindAt st) (length (st .heads)) (rowsOf st) = λ j. rowsOk (λ i. kinds i j) (x .heads j) (x .rows j) in
@@ -174,7 +175,7 @@ module _ (c : Change) (st : Store) (hs : List ℕ) (ts : List ℤ) (bs : Bytes) 
           alike =
               same-alike (state u) (state st) (withFiles (worldOf (state st)) (setFile k c (state st .files))) (lawful-shape u h)
               (λ q. looks q (λ r _. file-same e (r .slot)))
-              (λ n. ap (λ (os : List Open). openOf os n) (opens-kept st u refl refl 32 0))
+              (λ n. ap (λ (os : List Open). openOf os n) (opens-kept st u refl refl))
               (λ i f _ z. set-files i f z)
               refl refl (lawful-shape st l .paths) refl refl;
         }
@@ -203,7 +204,7 @@ module _ (c : Change) (st : Store) (hs : List ℕ) (ts : List ℤ) (bs : Bytes) 
             alike =
                 same-alike (state u) (state st) (withTree (worldOf (state st)) (put p n (state st .tree))) (lawful-shape u h)
                 (λ q. put-looks (omega arith) q ∙ ap (λ (m : Node). look (put p m (state st .tree)) q) g)
-                (λ i. ap (λ (os : List Open). openOf os i) (opens-kept st u refl refl 32 0))
+                (λ i. ap (λ (os : List Open). openOf os i) (opens-kept st u refl refl))
                 (λ i f _ w. let y = file-here i f w in has-file st l i (y .1) (y .2) ∙ ap some (sym (x .others i (λ d. e (ap (kindAt st) (sym d) ∙ y .2))) ∙ sym (y .0)))
                 refl refl (apart-put p n (state st .tree) (lawful-shape st l .paths)) refl refl;
           }

@@ -79,7 +79,7 @@ module _ (st : Store) (l : Lawful st) (k : ℕ) (hk : k < length (st .heads)) wh
 
   -- the times have room for the slot's four
   pub low : 4 * k + 3 < length (st .times)
-  low = omega (arith, l .exact .times, l .exact .heads)
+  low = omega (arith, l .exact .times, l .exact .heads, l .slotted)
 
   timed : (c : Change) (ts : List ℤ) → length ts ≡ length (st .times)
       → ((i : ℕ) → (i ≡ k → ⊥) → metaBy (getD (st .heads) i 0) ts i ≡ metaAt st i) → metaBy (getD (st .heads) k 0) ts k ≡ changeMeta c (metaAt st k)

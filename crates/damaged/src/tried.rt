@@ -9,14 +9,16 @@ use fields::same;
 use shown::read::number;
 use shown::text::say;
 use shown::text::say_number;
+use shown::tree::front_words;
 use shown::tree::say_tree;
 use shown::tree::word;
 
-// A root alone.
+// A root alone, in slot 0; slot 1 is free.
 fn root(words: &mut [u64], records: &mut [u64], heads: &mut [u64]) {
     put_word(words, 2, 1);
+    put_word(words, 101, 2);
     put_word(records, 0, 0);
-    put_word(heads, 0, 0x000001ed01000000);
+    put_words(heads, 0, &[0x000001ed01000000, 0]);
 }
 
 // The words of tree K, as the page has them under "An example".
@@ -44,6 +46,7 @@ fn tree_k(words: &mut [u64], records: &mut [u64], heads: &mut [u64]) {
         0x000001ff03000006,
     ];
     put_word(words, 2, 9);
+    put_word(words, 101, 9);
     put_words(records, 0, &entries);
     put_words(heads, 0, &slots);
 }
@@ -55,20 +58,14 @@ fn bytes_k(bytes: &mut [u8]) {
 }
 
 // The current directory is /y26/moon; file number 0 is open on /y26/moon/jan.txt, at position 5; number 1 on an empty file that
-// has no name any more, in slot 9, which was /old.
+// has no name any more, in slot 9, which was /old. Slots 10 and 11 are free.
 fn opened(words: &mut [u64], heads: &mut [u64], paths: &mut [u8]) {
     put_words(words, 4, &[9, 5, 5, 17, 10, 0, 4]);
-    put_word(heads, 9, 0x000001b602000000);
+    put_word(words, 101, 12);
+    put_words(heads, 9, &[0x000001b602000000, 0, 0]);
     put_text(paths, 0, b"/y26/moon");
     put_text(paths, 1024, b"/y26/moon/jan.txt");
     put_text(paths, 2048, b"/old");
-}
-
-fn front_words(s: &[u64], n: usize) -> &[u64] {
-    if s.len() < n {
-        return s;
-    }
-    &s[0..n]
 }
 
 fn front_times(s: &[i64], n: usize) -> &[i64] {
@@ -146,13 +143,13 @@ fn fill(
 // One case: a line's fields, and what it says in words. The storage is longer than 16 entries and 256 bytes ask, and but for slots
 // and times it does not hold zeros.
 pub fn tried(line: &[u8], what: &[u8]) {
-    let mut words = [77u64; 102];
+    let mut words = [77u64; 103];
     let mut records = [77u64; 4097];
     let mut heads = [0u64; 4129];
     let mut times = [0i64; 16516];
     let mut paths = [b'?'; 33793];
     let mut bytes = [b'?'; 4096];
-    let mut lengths = [101u64, 16, 48, 192, 33792, 256];
+    let mut lengths = [102u64, 16, 48, 192, 33792, 256];
     let w: &mut [u64] = &mut words;
     let r: &mut [u64] = &mut records;
     let h: &mut [u64] = &mut heads;
@@ -168,7 +165,7 @@ pub fn tried(line: &[u8], what: &[u8]) {
 
 // Tree K as the page has it, read back, and what the test says of it.
 pub fn shown_k() {
-    let mut words = [77u64; 101];
+    let mut words = [77u64; 102];
     let mut records = [77u64; 16];
     let mut heads = [77u64; 48];
     let times = [0i64; 192];
@@ -181,6 +178,11 @@ pub fn shown_k() {
     setup::set_up(w, r, h, &times, &paths, b, 16, 256);
     tree_k(w, r, h);
     bytes_k(b);
-    say_tree(r, h, b, word(w, 2) as usize);
+    say_tree(
+        r,
+        front_words(h, word(w, 101) as usize),
+        b,
+        word(w, 2) as usize,
+    );
     say_case(0, b"tree K", lawful::store_ok(w, r, h, &times, &paths, b));
 }

@@ -68,7 +68,7 @@ fn all(
 }
 
 fn edits(s: &[u8]) {
-    let mut words = [77u64; 101];
+    let mut words = [77u64; 102];
     let mut records = [77u64; 40];
     let mut heads = [77u64; 72];
     let mut times = [77i64; 288];

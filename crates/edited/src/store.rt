@@ -4,6 +4,7 @@ use shown::text::say_mode;
 use shown::text::say_number;
 use shown::text::say_short;
 use shown::tree::bytes_start;
+use shown::tree::front_words;
 use shown::tree::name_start;
 use shown::tree::part;
 use shown::tree::say_path;
@@ -118,8 +119,10 @@ pub fn say_store(
     bytes: &[u8],
 ) {
     let count = word(words, 2) as usize;
-    say_entries(records, heads, times, bytes, count);
-    say_numbers(words, heads, times, paths, bytes);
+    let slots = word(words, 101) as usize;
+    let used = front_words(heads, slots);
+    say_entries(records, used, times, bytes, count);
+    say_numbers(words, used, times, paths, bytes);
     say(b"umask ");
     say_mode(word(words, 3));
     say(b", current ");
@@ -129,6 +132,8 @@ pub fn say_store(
     say(b", bytes ");
     say_number(name_start(records, bytes.len(), count) as u64);
     say(b" + ");
-    say_number(held(heads, bytes.len()) as u64);
+    say_number(held(used, bytes.len()) as u64);
+    say(b", slots ");
+    say_number(slots as u64);
     say(b"\n");
 }

@@ -81,7 +81,7 @@ module _ (st st′ : Store) (root : Row) (a : List Row) (row : Row) (x b a₂ b�
             record {
               words = ap length (g .words) ∙ old .words;
               records = g .records ∙ (old .records ∙ sym same-most);
-              heads = ap length (g .heads) ∙ (old .heads ∙ ap slotsFor (sym same-most));
+              heads = ap length (g .heads) ∙ (old .heads ∙ ap (λ (w : List ℕ). getD w 101 0) (sym (g .words)));
               times = ap length (g .times) ∙ (old .times ∙ ap (λ (k : ℕ). 4 * slotsFor k) (sym same-most));
               paths = ap length (g .paths) ∙ old .paths;
               bytes = g .bytes ∙ (old .bytes ∙ sym same-room);
@@ -89,6 +89,7 @@ module _ (st st′ : Store) (root : Row) (a : List Row) (row : Row) (x b a₂ b�
         entryLimit = rw same-most (l .entryLimit);
         byteLimit = rw same-room (l .byteLimit);
         counted = rw (g .words) (l .counted);
+        slotted = rw (g .words) (l .slotted);
         space = rw (same-room, g .heads) (g .fits);
         entries =
             subst (λ (k : ℕ). T (rowsOk (kindAt st′) k (rowsOf st′))) (sym (ap length (g .heads)))
@@ -133,7 +134,7 @@ module _ (st st′ : Store) (root : Row) (a : List Row) (row : Row) (x b a₂ b�
         alike =
             same-alike (state st′) was (apply (give to) (apply (take from) (worldOf was))) (lawful-shape st′ carried-lawful)
             (look-same clear)
-            (λ i. ap (λ (o : List Open). openOf o i) (opens-kept st st′ (g .words) (g .paths) 32 0))
+            (λ i. ap (λ (o : List Open). openOf o i) (opens-kept st st′ (g .words) (g .paths)))
             (λ i f _ e. same-file i f e)
             (rw (g .words, g .paths) refl)
             (rw (g .words) refl)

@@ -9,7 +9,7 @@ use lib.Dec.{T, eqb}
 use lib.ListN.{length, getD}
 use lib.Seq.{getD-set-same, getD-set-other}
 use Rattle.path.specs.Path.{names}
-use Rattle.layout.specs.Store.{Store, most, room, count, mask, hereLength, holder, position, keptLength, cell, opensFrom}
+use Rattle.layout.specs.Store.{Store, most, room, count, extent, mask, hereLength, holder, keptLength, cell, opensFrom}
 use Rattle.layout.specs.Lawful.{heldFrom, keptOk, numberOk}
 use Rattle.views.proofs.Numbers.{held-same, opens-same}
 use Rattle.edits.specs.Growth.{Recounted}
@@ -25,6 +25,9 @@ module _ (st st′ : Store) (c : ℕ) (r : Recounted st st′ c) where
   pub same-room : room st′ ≡ room st
   same-room = other 1 (λ e. omega arith)
 
+  pub same-extent : extent st′ ≡ extent st
+  same-extent = other 101 (λ e. omega arith)
+
   pub same-mask : mask st′ ≡ mask st
   same-mask = other 3 (λ e. omega arith)
 
@@ -34,17 +37,14 @@ module _ (st st′ : Store) (c : ℕ) (r : Recounted st st′ c) where
   pub same-holder : (n : ℕ) → holder st′ n ≡ holder st n
   same-holder n = other (5 + 3 * n) (λ e. omega arith)
 
-  same-position : (n : ℕ) → position st′ n ≡ position st n
-  same-position n = other (6 + 3 * n) (λ e. omega arith)
-
   same-kept : (n : ℕ) → keptLength st′ n ≡ keptLength st n
   same-kept n = other (7 + 3 * n) (λ e. omega arith)
 
   pub new-count : 2 < length (st .words) → count st′ ≡ c
   new-count h = ap (λ (ws : List ℕ). getD ws 2 0) (r .words) ∙ getD-set-same (st .words) 2 c 0 h
 
-  pub same-opens : (n k : ℕ) → opensFrom st′ n k ≡ opensFrom st n k
-  same-opens = opens-same st st′ same-holder same-position same-kept (r .paths)
+  pub same-opens : opensFrom st′ 32 0 ≡ opensFrom st 32 0
+  same-opens = opens-same st st′ (λ i l h. other i (λ e. omega arith)) (r .paths)
 
   pub same-held : (n i k : ℕ) → heldFrom st′ n i k ≡ heldFrom st n i k
   same-held n i k = held-same st st′ k (λ j. ap (λ (h : ℕ). eqb h (suc k)) (same-holder j)) n i

@@ -25,7 +25,7 @@ use Rattle.slots.proofs.Totals.{total-set}
 use Rattle.views.specs.Parts.{dirAfter}
 use Rattle.views.proofs.Parted.{Has, has-first, uses-both, rows-slots, dir-slots}
 use Rattle.edits.specs.Growth.{newMeta, Grown}
-use Rattle.edits.proofs.Counted.{same-most, same-room, same-mask, new-count, same-held, here-ok, number-ok}
+use Rattle.edits.proofs.Counted.{same-most, same-room, same-extent, same-mask, new-count, same-held, here-ok, number-ok}
 
 -- a slot by what is read of it
 pub node-same : {i j : ℕ} {m n : Meta} {c d : Bytes} (k : ℕ) → i ≡ j → m ≡ n → c ≡ d → nodeBy i k m c ≡ nodeBy j k n d
@@ -143,13 +143,14 @@ module _ (st st′ : Store) (a b : List Row) (row : Row) (h : ℕ) (c : Bytes) (
       let r = g .counted in
       let most-same = same-most st st′ (suc (count st)) r in
       let room-same = same-room st st′ (suc (count st)) r in
+      let extent-same = same-extent st st′ (suc (count st)) r in
       let old = l .exact in
       record {
         exact =
             record {
               words = ap length (r .words) ∙ (length-set (st .words) 2 (suc (count st)) ∙ old .words);
               records = g .records ∙ (old .records ∙ sym most-same);
-              heads = r .slots ∙ (old .heads ∙ ap slotsFor (sym most-same));
+              heads = r .slots ∙ (old .heads ∙ sym extent-same);
               times = g .times .long ∙ (old .times ∙ ap (λ (k : ℕ). 4 * slotsFor k) (sym most-same));
               paths = ap length (r .paths) ∙ old .paths;
               bytes = g .bytes ∙ (old .bytes ∙ sym room-same);
@@ -157,6 +158,7 @@ module _ (st st′ : Store) (a b : List Row) (row : Row) (h : ℕ) (c : Bytes) (
         entryLimit = rw most-same (l .entryLimit);
         byteLimit = rw room-same (l .byteLimit);
         counted = rw (new-count st st′ (suc (count st)) r (omega (arith, old .words)), most-same) (g .more);
+        slotted = rw (extent-same, most-same) (l .slotted);
         space = rw (g .names, new-total, room-same) (omega (arith, g .fits));
         entries =
             subst (λ (k : ℕ). T (rowsOk (kindAt st′) k (rowsOf st′))) (sym (r .slots))

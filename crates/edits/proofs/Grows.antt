@@ -86,7 +86,7 @@ module _ (st st′ : Store) (a b : List Row) (row : Row) (h : ℕ) (c : Bytes) (
       ∙ ap some (sym (same-file i e) ∙ sym (y .file))
 
   same-open : (n : ℕ) → openOf (state st′ .opens) n ≡ openOf (was .opens) n
-  same-open n = ap (λ (y : List Open). openOf y n) (same-opens st st′ (suc (count st)) (g .counted) 32 0)
+  same-open n = ap (λ (y : List Open). openOf y n) (same-opens st st′ (suc (count st)) (g .counted))
 
   new-kind : kindAt st′ s ≡ kindOf h
   new-kind = ap kindOf (new-head st st′ a b row h c t l g)

@@ -16,7 +16,7 @@ use Rattle.path.specs.Path.{Name, proper}
 use Rattle.path.proofs.Laws.{and-left, and-right, and-both}
 use Rattle.model.specs.Tree.{Path}
 use Rattle.model.specs.Rules.{nameOk, targetOk}
-use Rattle.layout.specs.Fields.{depthOf, nlenOf, slotOf, recordWord, lenOf, kindOf, modeOf, headWord}
+use Rattle.layout.specs.Fields.{depthOf, nlenOf, slotOf, recordWord, kindOf, modeOf, headWord}
 use Rattle.layout.specs.Rows.{Row, rows, nameTotal, pathBy, pathOf}
 use Rattle.layout.specs.Slots.{total, contents}
 use Rattle.layout.specs.Store.{Store, lent, count, live, rowsOf, state}
@@ -127,7 +127,7 @@ module _ (ws rs hs : List ℕ) (ts : List ℤ) (ps bs : Bytes) (k depth : ℕ) (
   -- ---- what the steps ask
 
   pub slot-small : (s : ℕ) → s < length hs → s < 65536
-  slot-small s h = omega (arith, l .exact .heads, l .entryLimit .1)
+  slot-small s h = omega (arith, l .exact .heads, l .slotted, l .entryLimit .1)
 
   module _ (last : k ≤ count st) (small : depth < 65536) (short : length x < 256) (s w : ℕ) (z : (s < length hs) × (getD hs s 0 ≡ 0)) (e : w ≡ recordWord depth (length x) s) where
     pub may-open : (k ≤ count st) × (count st < length rs) × (count st ≤ 4096) × (nlenOf w ≡ length x) × (nameTotal (take (count st) rs) + length x ≤ length bs)
@@ -143,9 +143,9 @@ module _ (ws rs hs : List ℕ) (ts : List ℤ) (ps bs : Bytes) (k depth : ℕ) (
       pub may-fill : (s < length hs) × (length hs ≤ 4128) × (getD hs s 0 ≡ 0) × (4 * s + 4 ≤ length ts) × (kind < 4) × (length c ≤ 1048576) × (total hs + length c ≤ length bs₁)
       may-fill = (
         z .0,
-        omega (arith, l .exact .heads, l .entryLimit .1),
+        omega (arith, l .exact .heads, l .slotted, l .entryLimit .1),
         z .1,
-        omega (arith, l .exact .times, l .exact .heads, z .0),
+        omega (arith, l .exact .times, l .exact .heads, l .slotted, z .0),
         kind-small,
         omega (arith, i .fits, l .byteLimit .1),
         omega (arith, i .fits, l .exact .bytes, o .byteCount),

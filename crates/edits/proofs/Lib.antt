@@ -10,4 +10,3 @@ pub mod Places
 pub mod Renames
 pub mod Rooting
 pub mod Shrinking
-pub mod Vacant

@@ -187,7 +187,7 @@ module _ (ws rs hs : List ℕ) (ts : List ℤ) (ps bs : Bytes) (i e p depth : �
     low-index .1,
     low-index .2,
     omega (arith, name-short y (m .name)),
-    omega (arith, word-is .1, slot-low, l .exact .heads, l .entryLimit .1),
+    omega (arith, word-is .1, slot-low, l .exact .heads, l .slotted, l .entryLimit .1),
     omega (arith, l .space, l .exact .bytes),
     omega (arith, m .fits, l .exact .bytes, word-is .2),
   )

@@ -27,7 +27,7 @@ use Rattle.views.proofs.Parted.{Has, uses-both, tree-slots, rows-slots}
 use Rattle.views.proofs.Shapes.{lawful-shape}
 use Rattle.views.proofs.Telling.{same-alike}
 use Rattle.edits.specs.Shrinkage.{stays, Shrunk}
-use Rattle.edits.proofs.Counted.{same-most, same-room, same-mask, new-count, same-held, same-opens, same-here, here-ok, number-ok}
+use Rattle.edits.proofs.Counted.{same-most, same-room, same-extent, same-mask, new-count, same-held, same-opens, same-here, here-ok, number-ok}
 use Rattle.edits.proofs.Growing.{node-same, slot-same}
 
 module _ (st st′ : Store) (a x b : List Row) (l : Lawful st) (g : Shrunk st st′ a x b) where
@@ -111,13 +111,14 @@ module _ (st st′ : Store) (a x b : List Row) (l : Lawful st) (g : Shrunk st st
       let r = g .counted in
       let most-same = same-most st st′ c r in
       let room-same = same-room st st′ c r in
+      let extent-same = same-extent st st′ c r in
       let old = l .exact in
       record {
         exact =
             record {
               words = ap length (r .words) ∙ (length-set (st .words) 2 c ∙ old .words);
               records = g .records ∙ (old .records ∙ sym most-same);
-              heads = r .slots ∙ (old .heads ∙ ap slotsFor (sym most-same));
+              heads = r .slots ∙ (old .heads ∙ sym extent-same);
               times = ap length (g .times) ∙ (old .times ∙ ap (λ (k : ℕ). 4 * slotsFor k) (sym most-same));
               paths = ap length (r .paths) ∙ old .paths;
               bytes = g .bytes ∙ (old .bytes ∙ sym room-same);
@@ -125,6 +126,7 @@ module _ (st st′ : Store) (a x b : List Row) (l : Lawful st) (g : Shrunk st st
         entryLimit = rw most-same (l .entryLimit);
         byteLimit = rw room-same (l .byteLimit);
         counted = rw (new-count st st′ c r (omega (arith, old .words)), most-same) (omega (arith, l .counted));
+        slotted = rw (extent-same, most-same) (l .slotted);
         space = rw room-same (omega (arith, g .names, g .room, l .space));
         entries =
             subst (λ (k : ℕ). T (rowsOk (kindAt st′) k (rowsOf st′))) (sym (r .slots))
@@ -163,7 +165,7 @@ module _ (st st′ : Store) (a x b : List Row) (l : Lawful st) (g : Shrunk st st
             ap (λ (y : List Row). look (treeFrom (nodeAt st′) [] y) q) (g .new)
             ∙ (ap (λ (y : Entries). look y q) (tree-slots (nodeAt st′) (nodeAt st) [] left same-node)
             ∙ (h q ∙ ap (λ (y : List Row). look (cut p (treeFrom (nodeAt st) [] y)) q) (sym (g .old)))))
-            (λ n. ap (λ (y : List Open). openOf y n) (same-opens st st′ c (g .counted) 32 0))
+            (λ n. ap (λ (y : List Open). openOf y n) (same-opens st st′ c (g .counted)))
             (λ i f _ e. old-file i f e)
             (same-here st st′ c (g .counted))
             (same-mask st st′ c (g .counted))

@@ -3,14 +3,13 @@ ghost use mathlib.Core.Path.{_≡_};
 ghost use Prim.Native.Nat.{_+_, _*_, _<_, _≤_};
 ghost use lib.ListN.{length, getD};
 ghost use Rattle.layout.specs.Slots.{total};
-ghost use Rattle.slots.specs.Free.{freeFrom};
-ghost use Rattle.slots.specs.declared.Slot.the-variants.{Full};
+ghost use Rattle.slots.specs.Free.{HasFree};
 ghost use Rattle.edits.specs.Filling.{Filled};
 use slots::Slot;
 
-// The lowest free slot, where there is one.
+// The lowest free slot.
 pub fn vacant_slot(heads: &[u64]) -> usize
-    requires { ⌜ (freeFrom (now heads) 0 ≡ Full → ⊥) ⌝ }
+    requires { ⌜ HasFree (now heads) ⌝ }
     ensures { λ r. ⌜ (r < length (now (heads .entry))) × (getD (now (heads .entry)) r 0 ≡ 0) ⌝ }
 {
     match slots::free_slot(heads) {

@@ -3,6 +3,7 @@ ghost use mathlib.Core.Path.{_≡_};
 ghost use Rattle.model.specs.Tree.{Path};
 ghost use Rattle.layout.specs.Store.{lent, count};
 ghost use Rattle.layout.specs.Lawful.{Lawful};
+ghost use Rattle.slots.specs.Free.{HasFree};
 ghost use Rattle.edits.specs.Insertion.{Vacancy, Insertable, Inserted, Rooted};
 use crate::fill::fill_slot;
 use crate::fill::vacant_slot;
@@ -23,7 +24,7 @@ pub fn insert_entry(
     t: i64,
     text: &[u8],
 )
-    requires { ⌜ Lawful (lent (now words) (now records) (now heads) (now times) (now paths) (now bytes)) × ((q : Path) × Vacancy (lent (now words) (now records) (now heads) (now times) (now paths) (now bytes)) k depth q (now name)) × Insertable (lent (now words) (now records) (now heads) (now times) (now paths) (now bytes)) (now name) kind (now text) ⌝ }
+    requires { ⌜ Lawful (lent (now words) (now records) (now heads) (now times) (now paths) (now bytes)) × ((q : Path) × Vacancy (lent (now words) (now records) (now heads) (now times) (now paths) (now bytes)) k depth q (now name)) × Insertable (lent (now words) (now records) (now heads) (now times) (now paths) (now bytes)) (now name) kind (now text) × HasFree (now heads) ⌝ }
     ensures { λ _. ⌜ Inserted (lent (now (words .entry)) (now (records .entry)) (now (heads .entry)) (now (times .entry)) (now (paths .entry)) (now (bytes .entry))) (lent (now (words .exit)) (now (records .exit)) (now (heads .exit)) (now (times .exit)) (now (paths .entry)) (now (bytes .exit))) k depth (now (name .entry)) kind mode t (now (text .entry)) ⌝ }
 {
     let count = words[2] as usize;
@@ -45,7 +46,7 @@ pub fn insert_root(
     mode: u32,
     t: i64,
 )
-    requires { ⌜ Lawful (lent (now words) (now records) (now heads) (now times) (now paths) (now bytes)) × (count (lent (now words) (now records) (now heads) (now times) (now paths) (now bytes)) ≡ 0) ⌝ }
+    requires { ⌜ Lawful (lent (now words) (now records) (now heads) (now times) (now paths) (now bytes)) × (count (lent (now words) (now records) (now heads) (now times) (now paths) (now bytes)) ≡ 0) × HasFree (now heads) ⌝ }
     ensures { λ _. ⌜ Rooted (lent (now (words .entry)) (now (records .entry)) (now (heads .entry)) (now (times .entry)) (now (paths .entry)) (now (bytes .entry))) (lent (now (words .exit)) (now (records .exit)) (now (heads .exit)) (now (times .exit)) (now (paths .entry)) (now (bytes .exit))) mode t ⌝ }
 {
     let count = words[2] as usize;

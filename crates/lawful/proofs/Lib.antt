@@ -1,5 +1,4 @@
 pub mod Sums
 pub mod KeptPaths
 pub mod Slotting
-pub mod Ending
 pub mod Whole

@@ -11,8 +11,8 @@ use lib.Seq.{getD-take, length-take-le, take-take}
 use Rattle.text.specs.Utf8.{Bytes}
 use Rattle.layout.specs.Rows.{rows, nameTotal}
 use Rattle.layout.specs.Slots.{total}
-use Rattle.layout.specs.Store.{Store, most, room, count, live, rowsOf, slotsFor, bytesAt, cut}
-use Rattle.layout.specs.Lawful.{rowsOk, uses, heldFrom, slotBy, Exact, Lawful, Long, Passes}
+use Rattle.layout.specs.Store.{Store, most, room, count, extent, live, slotsFor, kindAt, bytesAt, cut}
+use Rattle.layout.specs.Lawful.{rowsOk, heldFrom, slotBy, slotOk, Exact, Lawful, Long, Passes}
 use Rattle.marks.proofs.Rowed.{uses-rows}
 use Rattle.limits.specs.Settles.{Settles}
 use Rattle.marks.specs.Uses.{usesIn, standsFrom}
@@ -44,21 +44,63 @@ unfolding heldFrom standsFrom
 held-words st zero i k = refl
 held-words st (suc n) i k = ap (λ (t : Bool). eqb (getD (st .words) (5 + 3 * i) 0) (suc k) || t) (held-words st n (suc i) k)
 
+-- ---- a store whose slices are as long as asked
+
+module _ (st : Store) where
+  abbrev pub PartsIn : Type 0
+  PartsIn = Parts (st .words) (live st) (st .heads) (st .paths) (st .bytes)
+
+  same-slot : (k : ℕ) → slotOk st k ≡ slotBy (kindAt st k) (getD (st .heads) k 0) (usesIn k (live st)) (standsFrom (st .words) 32 0 k) (bytesAt st k)
+  same-slot k =
+      ap (λ (u : ℕ). slotBy (kindAt st k) (getD (st .heads) k 0) u (heldFrom st 32 0 k) (bytesAt st k)) (uses-rows k (live st) (st .bytes))
+      ∙ ap (λ (b : Bool). slotBy (kindAt st k) (getD (st .heads) k 0) (usesIn k (live st)) b (bytesAt st k)) (held-words st 32 0 k)
+
+  pub parts-lawful : Exact st → Limits (st .words) → PartsIn → Lawful st
+  parts-lawful e m p = record {
+    exact = e;
+    entryLimit = m .entryLimit;
+    byteLimit = m .byteLimit;
+    counted = m .counted;
+    slotted = m .slotted;
+    space = omega (arith, p .space, e .bytes);
+    entries = p .entries;
+    slots = λ k h. subst T (sym (same-slot k)) (p .slots k h);
+    numbers = p .kept .numbers;
+    here = p .kept .here;
+    umask = m .umask;
+  }
+
+  pub lawful-limits : Lawful st → Limits (st .words)
+  lawful-limits l = record { words = omega (arith, l .exact .words); entryLimit = l .entryLimit; byteLimit = l .byteLimit; counted = l .counted; umask = l .umask; slotted = l .slotted }
+
+  pub lawful-parts : Lawful st → PartsIn
+  lawful-parts l = record {
+    space = omega (arith, l .space, l .exact .bytes);
+    entries = l .entries;
+    kept = record { numbers = l .numbers; here = l .here };
+    slots = λ k h. subst T (same-slot k) (l .slots k h);
+  }
+
 -- ---- the whole
 
 module _ (st : Store) where
   abbrev pub PartsOf : Type 0
-  PartsOf = Parts (take 101 (st .words)) (take (count st) (st .records)) (take (slotsFor (most st)) (st .heads)) (take 33792 (st .paths)) (take (room st) (st .bytes))
+  PartsOf = Parts (take 102 (st .words)) (take (count st) (st .records)) (take (extent st) (st .heads)) (take 33792 (st .paths)) (take (room st) (st .bytes))
 
   -- the words that are kept are the words that were lent
-  word : (i : ℕ) → i < 101 → getD (take 101 (st .words)) i 0 ≡ getD (st .words) i 0
-  word i h = getD-take 101 (st .words) i 0 h
+  word : (i : ℕ) → i < 102 → getD (take 102 (st .words)) i 0 ≡ getD (st .words) i 0
+  word i h = getD-take 102 (st .words) i 0 h
 
-  same-slot : (k : ℕ) → slotBy (kindIn (cut st .heads) k) (getD (cut st .heads) k 0) (uses k (rowsOf (cut st))) (heldFrom (cut st) 32 0 k) (bytesAt (cut st) k)
-      ≡ slotBy (kindIn (cut st .heads) k) (getD (cut st .heads) k 0) (usesIn k (live (cut st))) (standsFrom (cut st .words) 32 0 k) (bytesAt (cut st) k)
-  same-slot k =
-      ap (λ (u : ℕ). slotBy (kindIn (cut st .heads) k) (getD (cut st .heads) k 0) u (heldFrom (cut st) 32 0 k) (bytesAt (cut st) k)) (uses-rows k (live (cut st)) (cut st .bytes))
-      ∙ ap (λ (b : Bool). slotBy (kindIn (cut st .heads) k) (getD (cut st .heads) k 0) (usesIn k (live (cut st))) b (bytesAt (cut st) k)) (held-words (cut st) 32 0 k)
+  -- the limits are in the words that are kept
+  limits-cut : Limits (st .words) → Limits (take 102 (st .words))
+  limits-cut m = record {
+    words = omega (arith, length-take-le 102 (st .words) (m .words));
+    entryLimit = (omega (arith, word 0 (omega arith), m .entryLimit .0), omega (arith, word 0 (omega arith), m .entryLimit .1));
+    byteLimit = (omega (arith, word 1 (omega arith), m .byteLimit .0), omega (arith, word 1 (omega arith), m .byteLimit .1));
+    counted = omega (arith, word 0 (omega arith), word 2 (omega arith), m .counted);
+    umask = omega (arith, word 3 (omega arith), m .umask);
+    slotted = omega (arith, word 0 (omega arith), word 101 (omega arith), m .slotted);
+  }
 
   pub pass-limits : (Limits (st .words) → ⊥) → Passes st → ⊥
   pass-limits n p = n (record {
@@ -67,6 +109,7 @@ module _ (st : Store) where
     byteLimit = (omega (arith, word 1 (omega arith), p .1 .byteLimit .0), omega (arith, word 1 (omega arith), p .1 .byteLimit .1));
     counted = omega (arith, word 0 (omega arith), word 2 (omega arith), p .1 .counted);
     umask = omega (arith, word 3 (omega arith), p .1 .umask);
+    slotted = omega (arith, word 0 (omega arith), word 101 (omega arith), p .1 .slotted);
   })
 
   pub pass-lengths : (Lengths (st .words) (length (st .records)) (length (st .heads)) (length (st .times)) (length (st .paths)) (length (st .bytes)) → ⊥) → Passes st → ⊥
@@ -82,38 +125,18 @@ module _ (st : Store) where
 
     exact : Exact (cut st)
     exact = record {
-      words = length-take-le 101 (st .words) (m .words);
+      words = length-take-le 102 (st .words) (m .words);
       records = length-take-le (most st) (st .records) (l .records) ∙ sym (word 0 (omega arith));
-      heads = length-take-le (slotsFor (most st)) (st .heads) (l .heads) ∙ ap slotsFor (sym (word 0 (omega arith)));
+      heads = length-take-le (extent st) (st .heads) (omega (arith, m .slotted, l .heads)) ∙ sym (word 101 (omega arith));
       times = length-take-le (4 * slotsFor (most st)) (st .times) (l .times) ∙ ap (λ (n : ℕ). 4 * slotsFor n) (sym (word 0 (omega arith)));
       paths = length-take-le 33792 (st .paths) (l .paths);
       bytes = length-take-le (room st) (st .bytes) (l .bytes) ∙ sym (word 1 (omega arith));
     }
 
-    lawful : PartsOf → Lawful (cut st)
-    lawful q =
-        let p : Parts (cut st .words) (live (cut st)) (cut st .heads) (cut st .paths) (cut st .bytes) = subst (λ (ws : List ℕ). Parts (cut st .words) ws (cut st .heads) (cut st .paths) (cut st .bytes)) (sym records-live) q in
-        record {
-          exact = exact;
-          entryLimit = (omega (arith, word 0 (omega arith), m .entryLimit .0), omega (arith, word 0 (omega arith), m .entryLimit .1));
-          byteLimit = (omega (arith, word 1 (omega arith), m .byteLimit .0), omega (arith, word 1 (omega arith), m .byteLimit .1));
-          counted = omega (arith, word 0 (omega arith), word 2 (omega arith), m .counted);
-          space = omega (arith, p .space, exact .bytes);
-          entries = p .entries;
-          slots = λ k h. subst T (sym (same-slot k)) (p .slots k h);
-          numbers = p .kept .numbers;
-          here = p .kept .here;
-          umask = omega (arith, word 3 (omega arith), m .umask);
-        }
-
-    parts : Lawful (cut st) → PartsOf
-    parts w = subst (λ (ws : List ℕ). Parts (cut st .words) ws (cut st .heads) (cut st .paths) (cut st .bytes)) records-live (record {
-      space = omega (arith, w .space, w .exact .bytes);
-      entries = w .entries;
-      kept = record { numbers = w .numbers; here = w .here };
-      slots = λ k h. subst T (same-slot k) (w .slots k h);
-    })
+    -- the same parts
+    parts-cut : PartsIn (cut st) ≡ PartsOf
+    parts-cut = ap (λ (ws : List ℕ). Parts (cut st .words) ws (cut st .heads) (cut st .paths) (cut st .bytes)) records-live
 
     pub pass-parts : (r : Bool) → Settles r PartsOf → Settles r (Passes st)
-    pass-parts true p = (long, lawful p)
-    pass-parts false n = λ p. n (parts (p .1))
+    pass-parts true p = (long, parts-lawful (cut st) exact (limits-cut m) (subst (λ (x : Type 0). x) (sym parts-cut) p))
+    pass-parts false n = λ p. n (subst (λ (x : Type 0). x) parts-cut (lawful-parts (cut st) (p .1)))

@@ -7,10 +7,9 @@ ghost use Rattle.lawful.specs.Parts.{Parts};
 
 pub mod cells;
 pub mod held;
-mod unused;
 
-// Whether slices obey the rules. `recs` has the records of the entries and no more.
-fn rules_ok(words: &[u64], recs: &[u64], heads: &[u64], paths: &[u8], bytes: &[u8]) -> bool
+// Whether slices obey the rules. `recs` has the records of the entries and no more, `heads` the words of the slots so far.
+fn parts_ok(words: &[u64], recs: &[u64], heads: &[u64], paths: &[u8], bytes: &[u8]) -> bool
     requires { ⌜ (101 ≤ length (now words)) × (length (now recs) ≤ 4096) × (length (now heads) ≤ 4128) × (33792 ≤ length (now paths)) × (length (now bytes) ≤ 1048576) ⌝ }
     ensures { λ r. ⌜ Settles r (Parts (now (words .entry)) (now (recs .entry)) (now (heads .entry)) (now (paths .entry)) (now (bytes .entry))) ⌝ }
 {
@@ -28,16 +27,7 @@ fn rules_ok(words: &[u64], recs: &[u64], heads: &[u64], paths: &[u8], bytes: &[u
     held::slots_held(words, recs, heads, bytes, bytes.len() - rest)
 }
 
-// The same of slices that are as long as the limits ask: the slots behind the last one in use change nothing.
-fn parts_ok(words: &[u64], recs: &[u64], heads: &[u64], paths: &[u8], bytes: &[u8]) -> bool
-    requires { ⌜ (101 ≤ length (now words)) × (length (now recs) ≤ 4096) × (length (now heads) ≤ 4128) × (33792 ≤ length (now paths)) × (length (now bytes) ≤ 1048576) ⌝ }
-    ensures { λ r. ⌜ Settles r (Parts (now (words .entry)) (now (recs .entry)) (now (heads .entry)) (now (paths .entry)) (now (bytes .entry))) ⌝ }
-{
-    let used = unused::used_end(heads);
-    rules_ok(words, recs, &heads[..used], paths, bytes)
-}
-
-// Whether the slices are a store, of which each may be longer than the limits ask.
+// Whether the slices are a store, of which each may be longer than the limits ask. Slots behind those so far are not looked at.
 pub fn store_ok(
     words: &[u64],
     records: &[u64],
@@ -61,11 +51,11 @@ pub fn store_ok(
     ) {
         return false;
     }
-    let slots = words[0] as usize + 32;
+    let slots = words[101] as usize;
     let room = words[1] as usize;
     let count = words[2] as usize;
     parts_ok(
-        &words[..101],
+        &words[..102],
         &records[..count],
         &heads[..slots],
         &paths[..33792],

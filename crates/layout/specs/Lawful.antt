@@ -15,7 +15,7 @@ use Rattle.model.specs.Rules.{nameOk, pathOk, targetOk, timeOk, bytesOk}
 use Rattle.layout.specs.Fields.{lenOf}
 use Rattle.layout.specs.Rows.{Row, nameTotal, pathOf}
 use Rattle.layout.specs.Slots.{total}
-use Rattle.layout.specs.Store.{Store, most, room, count, mask, hereLength, holder, keptLength, cell, slotsFor, live, rowsOf, bytesAt, kindAt, cut}
+use Rattle.layout.specs.Store.{Store, most, room, count, mask, hereLength, extent, holder, keptLength, cell, slotsFor, live, rowsOf, bytesAt, kindAt, cut}
 
 -- ---- entries
 
@@ -83,11 +83,11 @@ numberOk st n = eqb (holder st n) 0 || (leb (holder st n) (length (st .heads)) &
 
 -- ---- the store
 
--- each slice is as long as the limits ask
+-- each slice is as long as the limits ask, and the slots' words as the extent asks
 pub record Exact (st : Store) : Type 0 where
-  pub words : length (st .words) ≡ 101
+  pub words : length (st .words) ≡ 102
   pub records : length (st .records) ≡ most st
-  pub heads : length (st .heads) ≡ slotsFor (most st)
+  pub heads : length (st .heads) ≡ extent st
   pub times : length (st .times) ≡ 4 * slotsFor (most st)
   pub paths : length (st .paths) ≡ 33792
   pub bytes : length (st .bytes) ≡ room st
@@ -99,6 +99,8 @@ pub record Lawful (st : Store) : Type 0 where
   pub entryLimit : (1 ≤ most st) × (most st ≤ 4096)
   pub byteLimit : (256 ≤ room st) × (room st ≤ 1048576)
   pub counted : count st ≤ most st
+  -- "Room for 32 removed files beyond the entry limit"
+  pub slotted : extent st ≤ slotsFor (most st)
   -- names from the left, the bytes of the slots from the right
   pub space : nameTotal (live st) + total (st .heads) ≤ room st
   pub entries : T (rowsOk (kindAt st) (length (st .heads)) (rowsOf st))
@@ -109,7 +111,7 @@ pub record Lawful (st : Store) : Type 0 where
 
 -- each slice is at least as long as the limits ask
 pub record Long (st : Store) : Type 0 where
-  pub words : 101 ≤ length (st .words)
+  pub words : 102 ≤ length (st .words)
   pub records : most st ≤ length (st .records)
   pub heads : slotsFor (most st) ≤ length (st .heads)
   pub times : 4 * slotsFor (most st) ≤ length (st .times)

@@ -62,6 +62,10 @@ position st n = getD (st .words) (6 + 3 * n) 0
 abbrev pub keptLength : Store → ℕ → ℕ
 keptLength st n = getD (st .words) (7 + 3 * n) 0
 
+-- word 101: the number of slots that the store has so far; every slot in use is below it
+abbrev pub extent : Store → ℕ
+extent st = getD (st .words) 101 0
+
 -- ---- the cells of the kept paths
 
 -- a cell has 1,024 bytes, of which some are used: cell 0 is the current directory's, cell n + 1 the file number n's
@@ -116,19 +120,19 @@ opensFrom st (suc n) k =
 
 -- ---- the state that is read back
 
--- the state of a store whose slices are as long as the limits ask
+-- the state of a store whose slices are as long as the limits and the extent ask
 abbrev pub state : Store → State
 state st =
     record { tree = treeFrom (nodeAt st) [] (rowsOf st); files = filesFrom st (length (st .heads)) 0; opens = opensFrom st 32 0; here = names (cell st 0 (hereLength st)); mask = mask st; most = most st; room = room st }
 
 -- ---- slices that are longer
 
--- as much of each slice as the limits ask
+-- as much of each slice as the limits ask, and of the slots' words as many as there are slots so far
 abbrev pub cut : Store → Store
 cut st =
-    record { words = take 101 (st .words); records = take (most st) (st .records); heads = take (slotsFor (most st)) (st .heads); times = take (4 * slotsFor (most st)) (st .times); paths = take 33792 (st .paths); bytes = take (room st) (st .bytes) }
+    record { words = take 102 (st .words); records = take (most st) (st .records); heads = take (extent st) (st .heads); times = take (4 * slotsFor (most st)) (st .times); paths = take 33792 (st .paths); bytes = take (room st) (st .bytes) }
 
 -- what stands behind that, by the limits: nothing reads it or writes it
 abbrev pub spare : ℕ → ℕ → Store → Store
 spare m b st =
-    record { words = drop 101 (st .words); records = drop m (st .records); heads = drop (slotsFor m) (st .heads); times = drop (4 * slotsFor m) (st .times); paths = drop 33792 (st .paths); bytes = drop b (st .bytes) }
+    record { words = drop 102 (st .words); records = drop m (st .records); heads = drop (slotsFor m) (st .heads); times = drop (4 * slotsFor m) (st .times); paths = drop 33792 (st .paths); bytes = drop b (st .bytes) }

@@ -4,13 +4,14 @@ use mathlib.Core.List.{List}
 use Prim.Native.Nat.{ℕ, _+_, _*_, _^_, _≤_, _<_}
 use lib.ListN.{length, getD}
 
--- the entry limit, the byte limit, the number of entries and the umask are in range
+-- the entry limit, the byte limit, the number of entries, the umask and the number of slots are in range
 pub record Limits (ws : List ℕ) : Type 0 where
-  pub words : 101 ≤ length ws
+  pub words : 102 ≤ length ws
   pub entryLimit : (1 ≤ getD ws 0 0) × (getD ws 0 0 ≤ 4096)
   pub byteLimit : (256 ≤ getD ws 1 0) × (getD ws 1 0 ≤ 1048576)
   pub counted : getD ws 2 0 ≤ getD ws 0 0
   pub umask : getD ws 3 0 < 2 ^ 32
+  pub slotted : getD ws 101 0 ≤ getD ws 0 0 + 32
 
 -- the lengths of the other slices are what the limits ask, or more
 pub record Lengths (ws : List ℕ) (rs hs ts ps bs : ℕ) : Type 0 where

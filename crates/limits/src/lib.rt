@@ -2,11 +2,11 @@
 ghost use Rattle.limits.specs.Settles.{Settles};
 ghost use Rattle.limits.specs.Limits.{Limits, Lengths};
 
-// Whether the entry limit, the byte limit, the number of entries and the umask are in range.
+// Whether the entry limit, the byte limit, the number of entries, the umask and the number of slots are in range.
 pub fn limits_ok(words: &[u64]) -> bool
     ensures { λ r. ⌜ Settles r (Limits (now (words .entry))) ⌝ }
 {
-    if words.len() < 101 {
+    if words.len() < 102 {
         return false;
     }
     let most = words[0];
@@ -26,7 +26,10 @@ pub fn limits_ok(words: &[u64]) -> bool
     if most < words[2] {
         return false;
     }
-    words[3] < 4294967296
+    if 4294967295 < words[3] {
+        return false;
+    }
+    words[101] <= most + 32
 }
 
 // Whether the other slices are long enough.

@@ -98,7 +98,7 @@ module _ (st : Store) (l : Lawful st) (n : ℕ) (low : n < 32) (on : holder st n
   stays-by : (After st kept k) → Spells kept (edited (close n) (state st))
   stays-by a =
       close-by (st .heads) (st .bytes)
-      (words-leave st ws (st .paths) l (length-set (st .words) (5 + 3 * n) 0) refl (λ i h. rest i (λ e. omega arith)) (λ i. go i (ℕ-discrete i k))) refl
+      (words-leave st ws (st .paths) l (length-set (st .words) (5 + 3 * n) 0) refl (λ i h. rest i (λ e. omega arith)) (rest 101 (λ e. omega arith)) (λ i. go i (ℕ-discrete i k))) refl
     where
       go : (i : ℕ) → Dec (i ≡ k) → After st kept i
       go i (yes e) = subst (After st kept) (sym e) a
@@ -165,13 +165,14 @@ module _ (st : Store) (l : Lawful st) (n : ℕ) (low : n < 32) (on : holder st n
     close-freed =
         let m = rest 0 (λ e. omega arith) in
         let r = rest 1 (λ e. omega arith) in
+        let x = rest 101 (λ e. omega arith) in
         close-by hs bs
         (record {
           exact =
               record {
                 words = length-set (st .words) (5 + 3 * n) 0 ∙ l .exact .words;
                 records = l .exact .records ∙ sym m;
-                heads = omega (arith, same-heads, l .exact .heads, m);
+                heads = omega (arith, same-heads, l .exact .heads, x);
                 times = omega (arith, l .exact .times, m);
                 paths = l .exact .paths;
                 bytes = f .long ∙ l .exact .bytes ∙ sym r;
@@ -179,6 +180,7 @@ module _ (st : Store) (l : Lawful st) (n : ℕ) (low : n < 32) (on : holder st n
           mostSame = m;
           roomSame = r;
           countSame = same-count;
+          extentSame = x;
           rowsSame = same-rows;
           space = subst (λ (c : ℕ). nameTotal (take c (st .records)) + total hs ≤ room st) (sym same-count) (omega (arith, l .space, f .room));
           slots = λ i. slot-after i (ℕ-discrete i k);

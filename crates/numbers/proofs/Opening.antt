@@ -138,7 +138,7 @@ module _ (st : Store) (l : Lawful st) (n k id : ℕ) (s : Bytes) (low : n < 32) 
   leaves =
       words-leave st ws ps l longs
       (length-paste (st .paths) (1024 * suc n) s (length s) (omega (arith, l .exact .paths, cell-fits s ok)) (omega arith))
-      (λ i h. rest i (λ e. omega arith) (λ e. omega arith) (λ e. omega arith)) after
+      (λ i h. rest i (λ e. omega arith) (λ e. omega arith) (λ e. omega arith)) (rest 101 (λ e. omega arith) (λ e. omega arith) (λ e. omega arith)) after
 
   -- ---- the numbers
 

@@ -33,8 +33,8 @@ edit st ws ps = record { words = ws; records = st .records; heads = st .heads; t
 
 -- the entries and the slots stay
 pub words-leave : (st : Store) (ws : List ℕ) (ps : Bytes) → Lawful st → length ws ≡ length (st .words) → length ps ≡ length (st .paths)
-    → ((i : ℕ) → i < 3 → getD ws i 0 ≡ getD (st .words) i 0) → ((i : ℕ) → After st (edit st ws ps) i) → Leaves st (edit st ws ps)
-words-leave st ws ps l a b w s =
+    → ((i : ℕ) → i < 3 → getD ws i 0 ≡ getD (st .words) i 0) → getD ws 101 0 ≡ getD (st .words) 101 0 → ((i : ℕ) → After st (edit st ws ps) i) → Leaves st (edit st ws ps)
+words-leave st ws ps l a b w x s =
     let m = w 0 (omega arith) in
     let r = w 1 (omega arith) in
     let c = w 2 (omega arith) in
@@ -43,7 +43,7 @@ words-leave st ws ps l a b w s =
           record {
             words = a ∙ l .exact .words;
             records = l .exact .records ∙ sym m;
-            heads = omega (arith, l .exact .heads, m);
+            heads = l .exact .heads ∙ sym x;
             times = omega (arith, l .exact .times, m);
             paths = b ∙ l .exact .paths;
             bytes = l .exact .bytes ∙ sym r;
@@ -51,6 +51,7 @@ words-leave st ws ps l a b w s =
       mostSame = m;
       roomSame = r;
       countSame = c;
+      extentSame = x;
       rowsSame = ap (λ (k : ℕ). rows (take k (st .records)) (st .bytes)) c;
       space = subst (λ (k : ℕ). nameTotal (take k (st .records)) + total (st .heads) ≤ room st) (sym c) (l .space);
       slots = s;
@@ -62,12 +63,12 @@ slot-same st ws ps i = record { head = refl; meta = refl; bytes = refl }
 
 -- every number stands on what it stood on
 module _ (st : Store) (ws : List ℕ) (ps : Bytes) (l : Lawful st) (a : length ws ≡ length (st .words)) (b : length ps ≡ length (st .paths))
-    (w : (i : ℕ) → i < 3 → getD ws i 0 ≡ getD (st .words) i 0) (n : (j : ℕ) → SameNumber st (edit st ws ps) j) where
+    (w : (i : ℕ) → i < 3 → getD ws i 0 ≡ getD (st .words) i 0) (x : getD ws 101 0 ≡ getD (st .words) 101 0) (n : (j : ℕ) → SameNumber st (edit st ws ps) j) where
   abbrev new : Store
   new = edit st ws ps
 
   leaves : Leaves st new
-  leaves = words-leave st ws ps l a b w (λ i. stays (slot-same st ws ps i) (held-same st new i (λ j. ap (λ (h : ℕ). eqb h (suc i)) (n j .word)) 32 0))
+  leaves = words-leave st ws ps l a b w x (λ i. stays (slot-same st ws ps i) (held-same st new i (λ j. ap (λ (h : ℕ). eqb h (suc i)) (n j .word)) 32 0))
 
   sets : T (keptOk new 0 (hereLength new)) → mask new < 2 ^ 32 → (os : List Open) → opensFrom new 32 0 ≡ os → (p : Path) → state new .here ≡ p → (m : ℕ) → mask new ≡ m
       → Spells new (stateOf (state st) (record { at = state st .tree; hand = []; files = state st .files; opens = os; here = p; mask = m }))
@@ -101,13 +102,16 @@ module _ (st : Store) (l : Lawful st) where
     limits : (i : ℕ) → i < 3 → getD (set (st .words) w v) i 0 ≡ getD (st .words) i 0
     limits i h = other (st .words) w v i (λ e. omega arith)
 
+    keeps-extent : getD (set (st .words) w v) 101 0 ≡ getD (st .words) 101 0
+    keeps-extent = other (st .words) w v 101 (λ e. five 32 (sym e))
+
     word-opens : ((j : ℕ) → position one j ≡ position st j) → opensFrom one 32 0 ≡ opensFrom st 32 0
-    word-opens = same-opens st (set (st .words) w v) (st .paths) l long refl limits keeps-number
+    word-opens = same-opens st (set (st .words) w v) (st .paths) l long refl limits keeps-extent keeps-number
 
     word-spells : (os : List Open) → opensFrom one 32 0 ≡ os → (m : ℕ) → mask one ≡ m → m < 2 ^ 32
         → Spells one (stateOf (state st) (record { at = state st .tree; hand = []; files = state st .files; opens = os; here = state st .here; mask = m }))
     word-spells os o m e u =
-        sets st (set (st .words) w v) (st .paths) l long refl limits keeps-number
+        sets st (set (st .words) w v) (st .paths) l long refl limits keeps-extent keeps-number
         (kept-same st one 0 (hereLength st) (hereLength one) keeps-here (λ h. refl) (l .here)) (omega (arith, e, u)) os o
         (state st .here) (ap (λ (k : ℕ). names (cell st 0 k)) keeps-here) m e
 
@@ -167,12 +171,13 @@ module _ (st : Store) (l : Lawful st) where
         let a = length-set (st .words) 4 (length s) in
         let b = length-paste (st .paths) 0 s (length s) (omega (arith, l .exact .paths, cell-fits s ok)) (omega arith) in
         let w : (i : ℕ) → i < 3 → getD ws i 0 ≡ getD (st .words) i 0 = λ i h. other (st .words) 4 (length s) i (λ e. omega arith) in
+        let x : getD ws 101 0 ≡ getD (st .words) 101 0 = other (st .words) 4 (length s) 101 (λ e. omega arith) in
         let m : mask gone ≡ mask st = other (st .words) 4 (length s) 3 (λ e. omega arith) in
-        sets st ws ps l a b w other-number
+        sets st ws ps l a b w x other-number
         (and-both (leb (hereLength gone) 1024) (cellOk (cell gone 0 (hereLength gone)))
         (le→leb (hereLength gone) 1024 (omega (arith, stores-length, cell-fits s ok))) (subst (λ (x : Bytes). T (cellOk x)) (sym stores-path) ok))
         (omega (arith, m, l .umask)) (opensFrom st 32 0)
-        (same-opens st ws ps l a b w other-number (λ j. other (st .words) 4 (length s) (6 + 3 * j) (λ e. omega arith)))
+        (same-opens st ws ps l a b w x other-number (λ j. other (st .words) 4 (length s) (6 + 3 * j) (λ e. omega arith)))
         (names s) (ap names stores-path) (mask st) m
 
     -- by the paths as they are left

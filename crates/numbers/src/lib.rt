@@ -87,7 +87,7 @@ pub fn open_number(
 
 // Whether a number has the word h: one more than the slot that it stands on.
 pub fn is_held(words: &[u64], h: u64) -> bool
-    requires { ⌜ (length (now words) ≡ 101) × (0 < h) ⌝ }
+    requires { ⌜ (length (now words) ≡ 102) × (0 < h) ⌝ }
     ensures { λ r. ⌜ r ≡ heldFrom (lent (now (words .entry)) [] [] [] [] []) 32 0 (h - 1) ⌝ }
 {
     let mut held = false;

@@ -192,7 +192,7 @@ pub fn kept_path<'a>(
 
 // The path of the current directory.
 pub fn current<'a>(words: &[u64], paths: &'a [u8]) -> &'a [u8]
-    requires { ⌜ (length (now words) ≡ 101) × (length (now paths) ≡ 33792) × T (keptOk (lent (now words) [] [] [] (now paths) []) 0 (hereLength (lent (now words) [] [] [] (now paths) []))) ⌝ }
+    requires { ⌜ (length (now words) ≡ 102) × (length (now paths) ≡ 33792) × T (keptOk (lent (now words) [] [] [] (now paths) []) 0 (hereLength (lent (now words) [] [] [] (now paths) []))) ⌝ }
     ensures { λ r. ⌜ (names (now r) ≡ state (lent (now (words .entry)) [] [] [] (now (paths .entry)) []) .here) × T (cellOk (now r)) ⌝ }
 {
     let n = words[4] as usize;

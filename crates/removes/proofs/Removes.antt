@@ -211,11 +211,11 @@ module _ (ws rs hs : List ℕ) (ts : List ℤ) (ps bs : Bytes) (i e : ℕ) (l : 
 
       -- ---- one entry
 
-      pub may-free-one : (t : ℕ) → t ≡ s → (length ws′ ≡ 101) × (t < length hs) × (length hs ≤ 4128) × (total hs ≤ length bs₁)
+      pub may-free-one : (t : ℕ) → t ≡ s → (length ws′ ≡ 102) × (t < length hs) × (length hs ≤ 4128) × (total hs ≤ length bs₁)
       may-free-one t h = (
         ap length g ∙ (length-set ws 2 (count st - (e - i)) ∙ l .exact .words),
         omega (arith, h, slot-low st l i low),
-        omega (arith, l .exact .heads, l .entryLimit .1),
+        omega (arith, l .exact .heads, l .slotted, l .entryLimit .1),
         omega (arith, l .space, l .exact .bytes, c .byteCount),
       )
 
@@ -271,7 +271,7 @@ module _ (ws rs hs : List ℕ) (ts : List ℤ) (ps bs : Bytes) (i e : ℕ) (l : 
 
       stood-on : (j : ℕ) → j < 32 → Dec (holder st j ≡ 0) → holder st j ≤ 4128
       stood-on j h (yes z) = omega (arith, z)
-      stood-on j h (no z) = omega (arith, stood st l j h z .low, l .exact .heads, l .entryLimit .1)
+      stood-on j h (no z) = omega (arith, stood st l j h z .low, l .exact .heads, l .slotted, l .entryLimit .1)
 
       left-slots : SlotsIn (length hs) (rows recs bs₁)
       left-slots = subst (SlotsIn (length hs)) (sym left-rows) (all-slots (kindAt st) (length hs) left (rows-cut (kindAt st) (length hs) root a row x b rules below behind))

@@ -11,7 +11,7 @@ ghost use Rattle.removes.specs.Removal.{Block, Removed};
 
 // Frees the slot that no record names any more, where no file number stands on it.
 fn free_one(words: &[u64], heads: &mut [u64], bytes: &mut [u8], s: usize)
-    requires { ⌜ (length (now words) ≡ 101) × (s < length (now heads)) × (length (now heads) ≤ 4128) × (total (now heads) ≤ length (now bytes)) ⌝ }
+    requires { ⌜ (length (now words) ≡ 102) × (s < length (now heads)) × (length (now heads) ≤ 4128) × (total (now heads) ≤ length (now bytes)) ⌝ }
     ensures { λ _. ⌜ Cleared (now (heads .entry)) (now (bytes .entry)) (now (heads .exit)) (now (bytes .exit)) (keepsOne (now (words .entry)) s) ⌝ }
 {
     if numbers::is_held(words, s as u64 + 1) {

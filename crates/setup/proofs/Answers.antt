@@ -1,11 +1,11 @@
 -- The three ways out of set up.
 -- Assumes nothing.
 use mathlib.Core.Bool.{true, false}
-use mathlib.Core.List.{List, _++_}
+use mathlib.Core.List.{List}
 use mathlib.Core.Path.{_≡_, refl, sym}
-use Prim.Native.Nat.{ℕ, _+_}
+use Prim.Native.Nat.{ℕ}
 use lib.IntN.{ℤ}
-use lib.ListN.{length, drop, replicate}
+use lib.ListN.{length}
 use Rattle.text.specs.Utf8.{Bytes}
 use Rattle.layout.specs.Store.{lent}
 use Rattle.setup.specs.SetUp.{entriesFit, bytesFit, refusalOf, freshWords, IsSetUp}
@@ -28,11 +28,11 @@ module _ (m b : ℕ) (ws rs hs : List ℕ) (ts : List ℤ) (ps bs : Bytes) where
     unfolding refusalOf
     says-0 f = rw (e, f) refl
 
-    pub says-done : (ws′ hs′ : List ℕ) → ws′ ≡ freshWords m b ws → hs′ ≡ replicate (m + 32) 0 ++ drop (m + 32) hs → bytesFit (length bs) b ≡ true
-        → IsSetUp m b (lent ws rs hs ts ps bs) (lent ws′ rs hs′ ts ps bs) 0
-    says-done ws′ hs′ i j f =
+    pub says-done : (ws′ : List ℕ) → ws′ ≡ freshWords m b ws → bytesFit (length bs) b ≡ true
+        → IsSetUp m b (lent ws rs hs ts ps bs) (lent ws′ rs hs ts ps bs) 0
+    says-done ws′ i f =
         let x = entry-room _ _ _ _ _ _ e in
         let y = byte-room _ _ f in
         let o = left-blank m b ws rs hs ts ps bs (x .words) (x .records) (x .heads) (x .times) (x .paths) (y .1) in
-        rw (i, j)
+        rw i
         (sym (says-0 f), ((left-long m b ws rs hs ts ps bs (x .words) (x .records) (x .heads) (x .times) (x .paths) (y .1), blank-lawful m b _ o (x .limit) (y .0)), blank-state m b _ o, left-spare m b ws rs hs ts ps bs))

@@ -13,7 +13,7 @@ use Rattle.model.specs.Rules.{namesOk, pathOk}
 use Rattle.path.specs.Path.{names, pieces, keep, vanishes, same, body, pathFits}
 use Rattle.layout.specs.Rows.{rows, nameTotal, treeFrom}
 use Rattle.layout.specs.Slots.{total}
-use Rattle.layout.specs.Store.{Store, most, room, count, mask, hereLength, holder, kindAt, nodeAt, filesFrom, opensFrom, state}
+use Rattle.layout.specs.Store.{Store, most, room, count, extent, mask, hereLength, holder, kindAt, nodeAt, filesFrom, opensFrom, state}
 use Rattle.layout.specs.Lawful.{Exact, Lawful, rowsOk, uses, heldFrom, slotOk, numberOk, keptOk, cellOk}
 
 pub record Blank (m b : ℕ) (st : Store) : Type 0 where
@@ -25,6 +25,7 @@ pub record Blank (m b : ℕ) (st : Store) : Type 0 where
   pub atRoot : hereLength st ≡ 0
   pub closed : (n : ℕ) → holder st n ≡ 0
   pub free : (k : ℕ) → getD (st .heads) k 0 ≡ 0
+  pub noSlot : extent st ≡ 0
 
 no-total : (hs : List ℕ) → ((k : ℕ) → getD hs k 0 ≡ 0) → total hs ≡ 0
 unfolding total
@@ -80,6 +81,7 @@ module _ (m b : ℕ) (st : Store) (o : Blank m b st) where
         entryLimit = rw (o .hasMost) l;
         byteLimit = rw (o .hasRoom) k;
         counted = rw (o .noEntry) zero-le;
+        slotted = rw (o .noSlot) zero-le;
         space = rw (no-names, no-total (st .heads) (o .free)) zero-le;
         entries = rw no-rows tt;
         slots = λ j _. rw (slot-free j) tt;

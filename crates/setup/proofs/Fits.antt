@@ -12,7 +12,7 @@ use Rattle.setup.specs.SetUp.{entriesFit, bytesFit}
 -- what the entry storage is found to be
 pub record EntryRoom (w r h t p m : ℕ) : Type 0 where
   pub limit : (1 ≤ m) × (m ≤ 4096)
-  pub words : 101 ≤ w
+  pub words : 102 ≤ w
   pub records : m ≤ r
   pub heads : m + 32 ≤ h
   pub times : 4 * (m + 32) ≤ t
@@ -24,12 +24,12 @@ entry-room w r h t p m e =
     let z = of-true e in
     let a = and-right (leb 1 m) _ z in
     let b = and-right (leb m 4096) _ a in
-    let c = and-right (leb 101 w) _ b in
+    let c = and-right (leb 102 w) _ b in
     let d = and-right (leb m r) _ c in
     let f = and-right (leb (m + 32) h) _ d in
     record {
       limit = (leb→le 1 m (and-left (leb 1 m) _ z), leb→le m 4096 (and-left (leb m 4096) _ a));
-      words = leb→le 101 w (and-left (leb 101 w) _ b);
+      words = leb→le 102 w (and-left (leb 102 w) _ b);
       records = leb→le m r (and-left (leb m r) _ c);
       heads = leb→le (m + 32) h (and-left (leb (m + 32) h) _ d);
       times = leb→le (4 * (m + 32)) t (and-left (leb (4 * (m + 32)) t) _ f);
@@ -66,22 +66,22 @@ module _ (w r h t p m : ℕ) where
   high a b = rw (le-leb 1 m a, lt-leb m 4096 b)
 
   module _ (a : 1 ≤ m) (b : m ≤ 4096) where
-    pub few-words : w < 101 → entriesFit w r h t p m ≡ false
+    pub few-words : w < 102 → entriesFit w r h t p m ≡ false
     unfolding entriesFit
-    few-words c = rw (le-leb 1 m a, le-leb m 4096 b, lt-leb 101 w c)
+    few-words c = rw (le-leb 1 m a, le-leb m 4096 b, lt-leb 102 w c)
 
-    pub few-records : 101 ≤ w → r < m → entriesFit w r h t p m ≡ false
+    pub few-records : 102 ≤ w → r < m → entriesFit w r h t p m ≡ false
     unfolding entriesFit
-    few-records c d = rw (le-leb 1 m a, le-leb m 4096 b, le-leb 101 w c, lt-leb m r d)
+    few-records c d = rw (le-leb 1 m a, le-leb m 4096 b, le-leb 102 w c, lt-leb m r d)
 
-    pub few-heads : 101 ≤ w → m ≤ r → h < m + 32 → entriesFit w r h t p m ≡ false
+    pub few-heads : 102 ≤ w → m ≤ r → h < m + 32 → entriesFit w r h t p m ≡ false
     unfolding entriesFit
-    few-heads c d e = rw (le-leb 1 m a, le-leb m 4096 b, le-leb 101 w c, le-leb m r d, lt-leb (m + 32) h e)
+    few-heads c d e = rw (le-leb 1 m a, le-leb m 4096 b, le-leb 102 w c, le-leb m r d, lt-leb (m + 32) h e)
 
-    pub few-times : 101 ≤ w → m ≤ r → m + 32 ≤ h → t < 4 * (m + 32) → entriesFit w r h t p m ≡ false
+    pub few-times : 102 ≤ w → m ≤ r → m + 32 ≤ h → t < 4 * (m + 32) → entriesFit w r h t p m ≡ false
     unfolding entriesFit
-    few-times c d e f = rw (le-leb 1 m a, le-leb m 4096 b, le-leb 101 w c, le-leb m r d, le-leb (m + 32) h e, lt-leb (4 * (m + 32)) t f)
+    few-times c d e f = rw (le-leb 1 m a, le-leb m 4096 b, le-leb 102 w c, le-leb m r d, le-leb (m + 32) h e, lt-leb (4 * (m + 32)) t f)
 
-    pub paths-left : 101 ≤ w → m ≤ r → m + 32 ≤ h → 4 * (m + 32) ≤ t → entriesFit w r h t p m ≡ leb 33792 p
+    pub paths-left : 102 ≤ w → m ≤ r → m + 32 ≤ h → 4 * (m + 32) ≤ t → entriesFit w r h t p m ≡ leb 33792 p
     unfolding entriesFit
-    paths-left c d e f = rw (le-leb 1 m a, le-leb m 4096 b, le-leb 101 w c, le-leb m r d, le-leb (m + 32) h e, le-leb (4 * (m + 32)) t f)
+    paths-left c d e f = rw (le-leb 1 m a, le-leb m 4096 b, le-leb 102 w c, le-leb m r d, le-leb (m + 32) h e, le-leb (4 * (m + 32)) t f)

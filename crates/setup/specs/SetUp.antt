@@ -13,7 +13,7 @@ use Rattle.layout.specs.Lawful.{Passes}
 -- "an entry limit of 1 to 4,096", and each slice of the entry storage long enough for it
 unfoldable pub entriesFit : ℕ → ℕ → ℕ → ℕ → ℕ → ℕ → Bool
 entriesFit words records heads times paths m =
-    leb 1 m && (leb m 4096 && (leb 101 words && (leb m records && (leb (slotsFor m) heads && (leb (4 * slotsFor m) times && leb 33792 paths)))))
+    leb 1 m && (leb m 4096 && (leb 102 words && (leb m records && (leb (slotsFor m) heads && (leb (4 * slotsFor m) times && leb 33792 paths)))))
 
 -- "a byte limit of 256 to 1,048,576", and the byte storage long enough for it
 unfoldable pub bytesFit : ℕ → ℕ → Bool
@@ -28,7 +28,7 @@ refusalOf m b st =
 
 -- the words of a fresh state, before what stands behind them
 unfoldable pub freshWords : ℕ → ℕ → List ℕ → List ℕ
-freshWords m b ws = set (set (set (replicate 101 0 ++ drop 101 ws) 0 m) 1 b) 3 0o666
+freshWords m b ws = set (set (set (replicate 102 0 ++ drop 102 ws) 0 m) 1 b) 3 0o666
 
 -- what stands there after an answer of 0: the fresh state, whatever stood there before, and behind it what was there; and after a
 -- refusal

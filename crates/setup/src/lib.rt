@@ -18,12 +18,12 @@ fn zero_words(s: &mut [u64], n: usize)
     }
 }
 
-// The limits, no entry, the umask octal 666, the root as current directory, every file number closed.
+// The limits, no entry, the umask octal 666, the root as current directory, every file number closed, no slot.
 fn fresh_words(words: &mut [u64], entries: u64, bytes: u64)
-    requires { ⌜ 101 ≤ length (now words) ⌝ }
+    requires { ⌜ 102 ≤ length (now words) ⌝ }
     ensures { λ _. ⌜ now (words .exit) ≡ freshWords entries bytes (now (words .entry)) ⌝ }
 {
-    zero_words(words, 101);
+    zero_words(words, 102);
     words[0] = entries;
     words[1] = bytes;
     words[3] = 0o666;
@@ -47,7 +47,7 @@ fn entries_fit(
         return false;
     }
     let n = limit as usize;
-    if words < 101 {
+    if words < 102 {
         return false;
     }
     if records < n {
@@ -75,19 +75,19 @@ fn bytes_fit(bytes: usize, limit: u64) -> bool
     limit as usize <= bytes
 }
 
-// 0, or refusal 15 or 16. Only the state's words and the words of the slots are written.
+// 0, or refusal 15 or 16. Only the state's words are written: a fresh store has no slot.
 #[no_mangle]
 pub extern "C" fn set_up(
     words: &mut [u64],
     records: &[u64],
-    heads: &mut [u64],
+    heads: &[u64],
     times: &[i64],
     paths: &[u8],
     bytes: &[u8],
     limit: u64,
     room: u64,
 ) -> u32
-    ensures { λ r. ⌜ IsSetUp limit room (lent (now (words .entry)) (now (records .entry)) (now (heads .entry)) (now (times .entry)) (now (paths .entry)) (now (bytes .entry))) (lent (now (words .exit)) (now (records .entry)) (now (heads .exit)) (now (times .entry)) (now (paths .entry)) (now (bytes .entry))) r ⌝ }
+    ensures { λ r. ⌜ IsSetUp limit room (lent (now (words .entry)) (now (records .entry)) (now (heads .entry)) (now (times .entry)) (now (paths .entry)) (now (bytes .entry))) (lent (now (words .exit)) (now (records .entry)) (now (heads .entry)) (now (times .entry)) (now (paths .entry)) (now (bytes .entry))) r ⌝ }
 {
     if !entries_fit(
         words.len(),
@@ -103,6 +103,5 @@ pub extern "C" fn set_up(
         return 16;
     }
     fresh_words(words, limit, room);
-    zero_words(heads, limit as usize + 32);
     0
 }

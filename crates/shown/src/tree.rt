@@ -21,6 +21,14 @@ pub fn part(s: &[u8], from: usize, n: usize) -> &[u8] {
     front(&s[from..], n)
 }
 
+// The first n words, or as many as there are.
+pub fn front_words(s: &[u64], n: usize) -> &[u64] {
+    if s.len() < n {
+        return s;
+    }
+    &s[0..n]
+}
+
 // Bits 0 to 15 of a record.
 fn depth(r: u64) -> u64 {
     r % 65536

@@ -23,7 +23,7 @@ use Rattle.spelled.proofs.Items.{Item, fileItem, item, home}
 use Rattle.spelled.proofs.Placing.{placed, rows-fit, entries-ok, tree-back}
 use Rattle.spelled.proofs.Slotting.{number-ok, here-ok, slot-ok}
 use Rattle.layout.proofs.Climbing.{Ascends}
-use Rattle.spelled.proofs.Stored.{bytesOf, headsOf, spell, words-length, heads-length, times-length, paths-length, most-back, room-back, count-back, mask-back, records-length, names-read, total-back, kind-back, meta-back, bytes-back, bytes-long}
+use Rattle.spelled.proofs.Stored.{bytesOf, headsOf, spell, words-length, heads-length, times-length, paths-length, most-back, room-back, count-back, extent-back, mask-back, records-length, names-read, total-back, kind-back, meta-back, bytes-back, bytes-long}
 use Rattle.spelled.proofs.Tracing.{renamed}
 
 -- every file counts
@@ -107,7 +107,7 @@ module _ (s : State) where
           record {
             words = words-length s;
             records = records-length s (o .entriesFit) ∙ sym (most-back s);
-            heads = heads-length s ∙ ap slotsFor (sym (most-back s));
+            heads = heads-length s ∙ sym (extent-back s);
             times = times-length s ∙ ap (λ (k : ℕ). 4 * slotsFor k) (sym (most-back s));
             paths = paths-length s;
             bytes = omega (arith, bytes-long s o, space, names-read s (rows-fit s o a), total-back s o) ∙ sym (room-back s);
@@ -120,6 +120,7 @@ module _ (s : State) where
             entryLimit = subst (λ (k : ℕ). (1 ≤ k) × (k ≤ 4096)) (sym (most-back s)) (o .entryLimit);
             byteLimit = subst (λ (k : ℕ). (256 ≤ k) × (k ≤ 1048576)) (sym (room-back s)) (o .byteLimit);
             counted = omega (arith, count-back s, most-back s, o .entriesFit);
+            slotted = omega (arith, extent-back s, most-back s);
             space = omega (arith, space, room-back s);
             entries = entries-ok s o a;
             slots = each-slot;

@@ -1,12 +1,12 @@
 -- Every number of the store of a state fits its slice: words have 64 bits, times are signed 64-bit numbers, bytes have 8 bits.
 -- Assumes nothing.
-use mathlib.Core.Bool.{true}
+use mathlib.Core.Bool.{Bool, true, false, cond}
 use mathlib.Core.List.{[], _∷_, _++_}
 use mathlib.Core.Option.{Option, none, some}
 use mathlib.Core.Path.{_≡_, refl}
 use Prim.Native.Nat.{ℕ, zero, suc, _+_, _-_, _*_, _/_, _%_, _<_, _^_}
 use native.Mathlib.Omega.{arith}
-use lib.Dec.{T, ltb, ltb→lt, lt→ltb}
+use lib.Dec.{T, eqb, ltb, ltb→lt, lt→ltb}
 use lib.IntN.{pos}
 use lib.ListN.{length, getD, replicate}
 use Rattle.text.specs.Utf8.{Bytes}
@@ -91,11 +91,15 @@ module _ (s : State) (o : Obeys s) where
   word-small (suc (suc zero)) = omega (arith, o .entriesFit, o .entryLimit .1)
   word-small (suc (suc (suc zero))) = omega (arith, o .umask)
   word-small (suc (suc (suc (suc zero)))) = omega (arith, path-short (s .here) (o .current))
-  word-small (suc (suc (suc (suc (suc k))))) = number-small (k / 3) (k % 3) (openOf (s .opens) (k / 3)) refl
+  word-small (suc (suc (suc (suc (suc k))))) = go (eqb k 96)
+    where
+      go : (b : Bool) → cond b (slotsFor (s .most)) (numberWord s (k % 3) (openOf (s .opens) (k / 3))) < 2 ^ 64
+      go true = omega (arith, o .entryLimit .1)
+      go false = number-small (k / 3) (k % 3) (openOf (s .opens) (k / 3)) refl
 
   words-small : (i : ℕ) → getD (wordsOf s) i 0 < 2 ^ 64
   unfolding wordsOf
-  words-small i = tab-all (λ x. x < 2 ^ 64) (wordOf s) 101 i 0 word-small (omega arith)
+  words-small i = tab-all (λ x. x < 2 ^ 64) (wordOf s) 102 i 0 word-small (omega arith)
 
   heads-small : (i : ℕ) → getD (headsOf s) i 0 < 2 ^ 64
   unfolding headsOf

@@ -1,14 +1,17 @@
 -- The store of a state: the state's words, a record for each entry in order, a slot for each item, the cells of the kept paths, and
 -- the bytes with the names on the left and the slots' on the right. What is read back of it is what was written.
 -- Assumes nothing.
+use mathlib.Core.Bool.{Bool, false, cond}
 use mathlib.Core.List.{List, [], _∷_, _++_, map, append-assoc}
 use mathlib.Core.Option.{Option, none, some}
 use mathlib.Core.Path.{_≡_, refl, ap, _∙_}
 use Prim.Native.Nat.{ℕ, zero, suc, _+_, _-_, _*_, _/_, _%_, _≤_, _<_}
 use native.Mathlib.Omega.{arith}
 use lib.IntN.{pos}
+use lib.Dec.{eqb}
 use lib.ListN.{length, take, drop, getD, replicate, length-append, length-replicate}
 use lib.Seq.{take-at, drop-at}
+use borrow.Author.Tests.{ne-eqb}
 use Rattle.text.specs.Utf8.{Bytes}
 use Rattle.path.specs.Path.{body}
 use Rattle.model.specs.Tree.{Time, Entries, Open, openOf}
@@ -17,7 +20,7 @@ use Rattle.model.specs.Rules.{Obeys}
 use Rattle.layout.specs.Fields.{kindOf, modeOf}
 use Rattle.layout.specs.Rows.{Row, rows, nameTotal}
 use Rattle.layout.specs.Slots.{total, split, start}
-use Rattle.layout.specs.Store.{Store, most, room, count, mask, hereLength, holder, position, keptLength, cell, slotsFor, live, rowsOf, metaAt, bytesAt, kindAt}
+use Rattle.layout.specs.Store.{Store, most, room, count, extent, mask, hereLength, holder, position, keptLength, cell, slotsFor, live, rowsOf, metaAt, bytesAt, kindAt}
 use Rattle.layout.proofs.Worded.{head-kind, head-mode}
 use Rattle.spelled.proofs.Fitting.{fits}
 use Rattle.spelled.proofs.Items.{item, home}
@@ -51,10 +54,10 @@ module _ (s : State) where
   wordOf (suc (suc zero)) = length (s .tree)
   wordOf (suc (suc (suc zero))) = s .mask
   wordOf (suc (suc (suc (suc zero)))) = length (body (s .here))
-  wordOf (suc (suc (suc (suc (suc k))))) = numberWord (k % 3) (openOf (s .opens) (k / 3))
+  wordOf (suc (suc (suc (suc (suc k))))) = cond (eqb k 96) (slotsFor (s .most)) (numberWord (k % 3) (openOf (s .opens) (k / 3)))
 
   unfoldable pub wordsOf : List ℕ
-  wordsOf = tab wordOf 101 0
+  wordsOf = tab wordOf 102 0
 
   unfoldable pub recordsOf : List ℕ
   recordsOf = map recordOf rowsIn ++ replicate (s .most - length (s .tree)) 0
@@ -80,9 +83,9 @@ module _ (s : State) where
 
   -- ---- lengths
 
-  pub words-length : length wordsOf ≡ 101
+  pub words-length : length wordsOf ≡ 102
   unfolding wordsOf
-  words-length = tab-length wordOf 101 0
+  words-length = tab-length wordOf 102 0
 
   pub heads-length : length headsOf ≡ slotsFor (s .most)
   unfolding headsOf
@@ -98,9 +101,9 @@ module _ (s : State) where
 
   -- ---- words
 
-  word-at : (k : ℕ) → k < 101 → getD wordsOf k 0 ≡ wordOf k
+  word-at : (k : ℕ) → k < 102 → getD wordsOf k 0 ≡ wordOf k
   unfolding wordsOf
-  word-at k h = tab-at wordOf 101 k 0 h
+  word-at k h = tab-at wordOf 102 k 0 h
 
   pub most-back : most spell ≡ s .most
   most-back = word-at 0 (omega arith)
@@ -117,12 +120,18 @@ module _ (s : State) where
   pub here-back : hereLength spell ≡ length (body (s .here))
   here-back = word-at 4 (omega arith)
 
+  pub extent-back : extent spell ≡ slotsFor (s .most)
+  extent-back = word-at 101 (omega arith)
+
   number-at : (n r : ℕ) → n < 32 → r < 3 → (k : ℕ) → k ≡ 5 + (3 * n + r) → getD wordsOf k 0 ≡ numberWord r (openOf (s .opens) n)
   number-at n r h g k e =
       let five : k ≡ suc (suc (suc (suc (suc (3 * n + r))))) = omega arith in
       let left : (3 * n + r) % 3 ≡ r = omega arith in
       let which : (3 * n + r) / 3 ≡ n = omega arith in
-      word-at k (omega arith) ∙ ap wordOf five ∙ ap (λ (i : ℕ). numberWord i (openOf (s .opens) ((3 * n + r) / 3))) left
+      let low : eqb (3 * n + r) 96 ≡ false = ne-eqb (3 * n + r) 96 (λ z. omega arith) in
+      word-at k (omega arith) ∙ ap wordOf five
+      ∙ ap (λ (b : Bool). cond b (slotsFor (s .most)) (numberWord ((3 * n + r) % 3) (openOf (s .opens) ((3 * n + r) / 3)))) low
+      ∙ ap (λ (i : ℕ). numberWord i (openOf (s .opens) ((3 * n + r) / 3))) left
       ∙ ap (λ (i : ℕ). numberWord r (openOf (s .opens) i)) which
 
   pub holder-back : (n : ℕ) → n < 32 → holder spell n ≡ holderBy (openOf (s .opens) n)

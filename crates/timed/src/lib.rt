@@ -1,9 +1,5 @@
 // Only for timing: an edit made many times in one store, for a C program. The store is tested once, since each edit leaves a store
 // that obeys the rules.
-ghost use Prim.Native.Nat.{_≤_};
-ghost use lib.ListN.{length};
-ghost use Rattle.layout.specs.Store.{lent};
-ghost use Rattle.layout.specs.Lawful.{Lawful};
 use tried::asked::ready;
 use tried::entry::insert_in;
 use tried::entry::remove_in;
@@ -28,15 +24,17 @@ pub extern "C" fn timed_place(
     if !ready(words, records, heads, times, paths, bytes) {
         return 0;
     }
+    let slots = words[101] as usize;
+    let used = &heads[..slots];
     let mut at = 0;
     while 10 <= names.len() - at {
         let e = at + 10;
         let name = &names[at..e];
-        let spot = spot_for(words, records, heads, times, paths, bytes, dir, name);
+        let spot = spot_for(words, records, used, times, paths, bytes, dir, name);
         if spot.at == 0 {
             return at / 10;
         }
-        if !insertable(words, records, heads, times, paths, bytes, name, 2, text) {
+        if !insertable(words, records, used, times, paths, bytes, name, 2, text) {
             return at / 10;
         }
         at = e;

@@ -1,23 +1,24 @@
--- What the tests say of a store. Slices that are as long as the limits ask are not cut, so what is lawful is the store itself.
+-- What the tests say of a store. Slices that are as long as the limits ask are not cut, but for the words of the slots.
 -- Assumes nothing.
 use mathlib.Core.Path.{_≡_, subst}
 use Prim.Native.Nat.{_*_}
 use native.Mathlib.Omega.{arith}
-use lib.ListN.{length}
+use lib.ListN.{length, take}
 use lib.Seq.{take-all}
-use Rattle.layout.specs.Store.{Store, most, room, slotsFor, cut}
+use Rattle.layout.specs.Store.{Store, most, room, extent, slotsFor, cut}
 use Rattle.layout.specs.Lawful.{Lawful}
+use Rattle.extents.specs.Extents.{trim, Roomy}
 use Rattle.tried.specs.Tried.{Whole}
 
-pub uncut : (st : Store) → Whole (st .words) (length (st .records)) (length (st .heads)) (length (st .times)) (length (st .paths)) (length (st .bytes)) → Lawful (cut st) → Lawful st
+pub uncut : (st : Store) → Whole (st .words) (length (st .records)) (length (st .heads)) (length (st .times)) (length (st .paths)) (length (st .bytes)) → Lawful (cut st) → Roomy st
 uncut st w l =
-    let e : cut st ≡ st =
+    let e : cut st ≡ trim st =
     λ i. record {
-      words = take-all 101 (st .words) (omega (arith, w .words)) i;
+      words = take-all 102 (st .words) (omega (arith, w .words)) i;
       records = take-all (most st) (st .records) (omega (arith, w .records)) i;
-      heads = take-all (slotsFor (most st)) (st .heads) (omega (arith, w .heads)) i;
+      heads = take (extent st) (st .heads);
       times = take-all (4 * slotsFor (most st)) (st .times) (omega (arith, w .times)) i;
       paths = take-all 33792 (st .paths) (omega (arith, w .paths)) i;
       bytes = take-all (room st) (st .bytes) (omega (arith, w .bytes)) i;
     } in
-    subst Lawful e l
+    record { lawful = subst Lawful e l; room = omega (arith, w .heads) }

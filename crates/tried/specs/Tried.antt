@@ -14,7 +14,7 @@ use Rattle.edits.specs.Insertion.{Vacancy}
 
 -- the lengths of the slices are what the limits ask
 pub record Whole (ws : List ℕ) (rs hs ts ps bs : ℕ) : Type 0 where
-  pub words : length ws ≡ 101
+  pub words : length ws ≡ 102
   pub records : rs ≡ getD ws 0 0
   pub heads : hs ≡ getD ws 0 0 + 32
   pub times : ts ≡ 4 * (getD ws 0 0 + 32)

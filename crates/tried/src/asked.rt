@@ -4,6 +4,7 @@ ghost use mathlib.Core.Path.{_≡_};
 ghost use Prim.Native.Nat.{_<_};
 ghost use Rattle.layout.specs.Store.{lent};
 ghost use Rattle.layout.specs.Lawful.{Lawful};
+ghost use Rattle.extents.specs.Extents.{Roomy};
 ghost use Rattle.tried.specs.Tried.{Whole, Fits};
 
 // Whether slices of those lengths are as long as the limits ask, and no longer.
@@ -17,7 +18,7 @@ fn whole(
 ) -> bool
     ensures { λ r. ⌜ (r ≡ true → Whole (now (words .entry)) records heads times paths bytes) ⌝ }
 {
-    if words.len() != 101 {
+    if words.len() != 102 {
         return false;
     }
     let most = words[0] as usize;
@@ -48,7 +49,7 @@ pub fn ready(
     paths: &[u8],
     bytes: &[u8],
 ) -> bool
-    ensures { λ r. ⌜ (r ≡ true → Lawful (lent (now (words .entry)) (now (records .entry)) (now (heads .entry)) (now (times .entry)) (now (paths .entry)) (now (bytes .entry)))) ⌝ }
+    ensures { λ r. ⌜ (r ≡ true → Roomy (lent (now (words .entry)) (now (records .entry)) (now (heads .entry)) (now (times .entry)) (now (paths .entry)) (now (bytes .entry)))) ⌝ }
 {
     if !whole(
         words,

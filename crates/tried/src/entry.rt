@@ -1,6 +1,10 @@
 // Entries put in and taken out.
+ghost use Prim.Native.Nat.{_<_};
+ghost use lib.ListN.{getD};
 ghost use Rattle.layout.specs.Store.{lent};
 ghost use Rattle.layout.specs.Lawful.{Lawful};
+ghost use Rattle.slots.specs.Free.{HasFree};
+ghost use Rattle.extents.specs.Extents.{Roomy};
 use crate::asked::ready;
 use crate::place::insertable;
 use crate::place::spot_for;
@@ -21,12 +25,24 @@ pub fn try_root(
     if words[2] != 0 {
         return false;
     }
-    edits::insert::insert_root(words, records, heads, times, paths, bytes, mode, t);
+    extents::reserve(words, records, heads, times, paths, bytes);
+    let slots = words[101] as usize;
+    edits::insert::insert_root(
+        words,
+        records,
+        &mut heads[..slots],
+        times,
+        paths,
+        bytes,
+        mode,
+        t,
+    );
+    extents::release(words, records, heads, times, paths, bytes);
     true
 }
 
-// The entry `name` of the directory at record dir, in a store that obeys the rules.
-pub fn insert_in(
+// The entry `name` of the directory at record dir, in a store that obeys the rules and has a free slot below the entry limit.
+fn insert_exact(
     words: &mut [u64],
     records: &mut [u64],
     heads: &mut [u64],
@@ -40,7 +56,7 @@ pub fn insert_in(
     t: i64,
     text: &[u8],
 ) -> bool
-    requires { ⌜ Lawful (lent (now words) (now records) (now heads) (now times) (now paths) (now bytes)) ⌝ }
+    requires { ⌜ Lawful (lent (now words) (now records) (now heads) (now times) (now paths) (now bytes)) × (getD (now words) 2 0 < getD (now words) 0 0 → HasFree (now heads)) ⌝ }
     ensures { λ r. ⌜ Lawful (lent (now (words .exit)) (now (records .exit)) (now (heads .exit)) (now (times .exit)) (now (paths .entry)) (now (bytes .exit))) ⌝ }
 {
     let spot = spot_for(words, records, heads, times, paths, bytes, dir, name);
@@ -68,6 +84,44 @@ pub fn insert_in(
         text,
     );
     true
+}
+
+// The same, with room behind the words of the slots so far.
+pub fn insert_in(
+    words: &mut [u64],
+    records: &mut [u64],
+    heads: &mut [u64],
+    times: &mut [i64],
+    paths: &[u8],
+    bytes: &mut [u8],
+    dir: usize,
+    name: &[u8],
+    kind: u64,
+    mode: u32,
+    t: i64,
+    text: &[u8],
+) -> bool
+    requires { ⌜ Roomy (lent (now words) (now records) (now heads) (now times) (now paths) (now bytes)) ⌝ }
+    ensures { λ r. ⌜ Roomy (lent (now (words .exit)) (now (records .exit)) (now (heads .exit)) (now (times .exit)) (now (paths .entry)) (now (bytes .exit))) ⌝ }
+{
+    extents::reserve(words, records, heads, times, paths, bytes);
+    let slots = words[101] as usize;
+    let made = insert_exact(
+        words,
+        records,
+        &mut heads[..slots],
+        times,
+        paths,
+        bytes,
+        dir,
+        name,
+        kind,
+        mode,
+        t,
+        text,
+    );
+    extents::release(words, records, heads, times, paths, bytes);
+    made
 }
 
 pub fn try_insert(
@@ -104,7 +158,7 @@ pub fn try_insert(
 }
 
 // The entry at record i, with all below it, in a store that obeys the rules.
-pub fn remove_in(
+fn remove_exact(
     words: &mut [u64],
     records: &mut [u64],
     heads: &mut [u64],
@@ -126,6 +180,25 @@ pub fn remove_in(
     let e = find::block_end(records, count, i);
     removes::remove_entry(words, records, heads, times, paths, bytes, i, e);
     true
+}
+
+// The same, with room behind the words of the slots so far.
+pub fn remove_in(
+    words: &mut [u64],
+    records: &mut [u64],
+    heads: &mut [u64],
+    times: &[i64],
+    paths: &[u8],
+    bytes: &mut [u8],
+    i: usize,
+) -> bool
+    requires { ⌜ Roomy (lent (now words) (now records) (now heads) (now times) (now paths) (now bytes)) ⌝ }
+    ensures { λ r. ⌜ Roomy (lent (now (words .exit)) (now (records .exit)) (now (heads .exit)) (now (times .entry)) (now (paths .entry)) (now (bytes .exit))) ⌝ }
+{
+    let slots = words[101] as usize;
+    let gone = remove_exact(words, records, &mut heads[..slots], times, paths, bytes, i);
+    extents::release(words, records, heads, times, paths, bytes);
+    gone
 }
 
 pub fn try_remove(

@@ -112,7 +112,18 @@ pub fn try_move(
     if !ready(words, records, heads, times, paths, bytes) {
         return false;
     }
-    let way = way_to(words, records, heads, times, paths, bytes, i, dir, name);
+    let slots = words[101] as usize;
+    let way = way_to(
+        words,
+        records,
+        &heads[..slots],
+        times,
+        paths,
+        bytes,
+        i,
+        dir,
+        name,
+    );
     let at = way.at;
     if at == 0 {
         return false;
@@ -122,7 +133,7 @@ pub fn try_move(
     edits::moving::move_entry(
         words,
         records,
-        heads,
+        &heads[..slots],
         times,
         paths,
         bytes,

@@ -131,14 +131,15 @@ pub fn try_open(
     if !lawful::cells::path_ok(path) {
         return false;
     }
-    let slot = file_slot(words, records, heads, times, paths, bytes, path);
-    if heads.len() <= slot {
+    let slots = words[101] as usize;
+    let slot = file_slot(words, records, &heads[..slots], times, paths, bytes, path);
+    if slots <= slot {
         return false;
     }
     numbers::open_number(
         words,
         records,
-        heads,
+        &heads[..slots],
         times,
         paths,
         bytes,

@@ -5,6 +5,7 @@ ghost use lib.ListN.{length, getD};
 ghost use Rattle.layout.specs.Fields.{slotOf};
 ghost use Rattle.layout.specs.Store.{lent};
 ghost use Rattle.layout.specs.Lawful.{Lawful};
+ghost use Rattle.extents.specs.Extents.{Roomy};
 use crate::asked::ready;
 use crate::asked::room_for;
 use layout::kind_of;
@@ -13,7 +14,7 @@ use layout::slot_of;
 
 // The slot of record i; the number of slots where no entry has the record.
 fn slot_at(words: &[u64], records: &[u64], slots: usize, i: usize) -> usize
-    requires { ⌜ (length (now words) ≡ 101) × (getD (now words) 2 0 ≤ length (now records)) ⌝ }
+    requires { ⌜ (length (now words) ≡ 102) × (getD (now words) 2 0 ≤ length (now records)) ⌝ }
     ensures { λ r. ⌜ (r < slots → (i < getD (now (words .entry)) 2 0) × (r ≡ slotOf (getD (now (records .entry)) i 0))) ⌝ }
 {
     if words[2] as usize <= i {
@@ -35,11 +36,21 @@ pub fn try_mode(
     if !ready(words, records, heads, times, paths, bytes) {
         return false;
     }
-    let slot = slot_at(words, records, heads.len(), i);
-    if heads.len() <= slot {
+    let slots = words[101] as usize;
+    let slot = slot_at(words, records, slots, i);
+    if slots <= slot {
         return false;
     }
-    changes::set_mode(words, records, heads, times, paths, bytes, slot, m);
+    changes::set_mode(
+        words,
+        records,
+        &mut heads[..slots],
+        times,
+        paths,
+        bytes,
+        slot,
+        m,
+    );
     true
 }
 
@@ -57,11 +68,22 @@ pub fn try_times(
     if !ready(words, records, heads, times, paths, bytes) {
         return false;
     }
-    let slot = slot_at(words, records, heads.len(), i);
-    if heads.len() <= slot {
+    let slots = words[101] as usize;
+    let slot = slot_at(words, records, slots, i);
+    if slots <= slot {
         return false;
     }
-    changes::set_times(words, records, heads, times, paths, bytes, slot, a, t);
+    changes::set_times(
+        words,
+        records,
+        &heads[..slots],
+        times,
+        paths,
+        bytes,
+        slot,
+        a,
+        t,
+    );
     true
 }
 
@@ -81,14 +103,15 @@ pub fn try_some_times(
     if !ready(words, records, heads, times, paths, bytes) {
         return false;
     }
-    let slot = slot_at(words, records, heads.len(), i);
-    if heads.len() <= slot {
+    let slots = words[101] as usize;
+    let slot = slot_at(words, records, slots, i);
+    if slots <= slot {
         return false;
     }
     changes::set_some_times(
         words,
         records,
-        heads,
+        &heads[..slots],
         times,
         paths,
         bytes,
@@ -102,7 +125,7 @@ pub fn try_some_times(
 }
 
 // The contents of the file at record i, in a store that obeys the rules.
-pub fn contents_in(
+fn contents_exact(
     words: &[u64],
     records: &[u64],
     heads: &mut [u64],
@@ -140,6 +163,35 @@ pub fn contents_in(
     true
 }
 
+// The same, with room behind the words of the slots so far.
+pub fn contents_in(
+    words: &[u64],
+    records: &[u64],
+    heads: &mut [u64],
+    times: &mut [i64],
+    paths: &[u8],
+    bytes: &mut [u8],
+    i: usize,
+    text: &[u8],
+    t: i64,
+) -> bool
+    requires { ⌜ Roomy (lent (now words) (now records) (now heads) (now times) (now paths) (now bytes)) ⌝ }
+    ensures { λ r. ⌜ Roomy (lent (now (words .entry)) (now (records .entry)) (now (heads .exit)) (now (times .exit)) (now (paths .entry)) (now (bytes .exit))) ⌝ }
+{
+    let slots = words[101] as usize;
+    contents_exact(
+        words,
+        records,
+        &mut heads[..slots],
+        times,
+        paths,
+        bytes,
+        i,
+        text,
+        t,
+    )
+}
+
 pub fn try_contents(
     words: &[u64],
     records: &[u64],
@@ -157,7 +209,8 @@ pub fn try_contents(
     contents_in(words, records, heads, times, paths, bytes, i, text, t)
 }
 
-pub fn try_length(
+// The length of the file at record i, in a store that obeys the rules.
+fn length_exact(
     words: &[u64],
     records: &[u64],
     heads: &mut [u64],
@@ -166,10 +219,9 @@ pub fn try_length(
     bytes: &mut [u8],
     i: usize,
     n: usize,
-) -> bool {
-    if !ready(words, records, heads, times, paths, bytes) {
-        return false;
-    }
+) -> bool
+    requires { ⌜ Lawful (lent (now words) (now records) (now heads) (now times) (now paths) (now bytes)) ⌝ }
+{
     let slot = slot_at(words, records, heads.len(), i);
     if heads.len() <= slot {
         return false;
@@ -183,4 +235,30 @@ pub fn try_length(
     }
     changes::set_length(words, records, heads, times, paths, bytes, slot, n);
     true
+}
+
+pub fn try_length(
+    words: &[u64],
+    records: &[u64],
+    heads: &mut [u64],
+    times: &[i64],
+    paths: &[u8],
+    bytes: &mut [u8],
+    i: usize,
+    n: usize,
+) -> bool {
+    if !ready(words, records, heads, times, paths, bytes) {
+        return false;
+    }
+    let slots = words[101] as usize;
+    length_exact(
+        words,
+        records,
+        &mut heads[..slots],
+        times,
+        paths,
+        bytes,
+        i,
+        n,
+    )
 }

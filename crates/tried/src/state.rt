@@ -13,7 +13,8 @@ pub fn try_umask(
     if !ready(words, records, heads, times, paths, bytes) {
         return false;
     }
-    numbers::set_umask(words, records, heads, times, paths, bytes, m);
+    let slots = words[101] as usize;
+    numbers::set_umask(words, records, &heads[..slots], times, paths, bytes, m);
     true
 }
 
@@ -33,7 +34,8 @@ pub fn try_seek(
     if 32 <= n {
         return false;
     }
-    numbers::set_position(words, records, heads, times, paths, bytes, n, k);
+    let slots = words[101] as usize;
+    numbers::set_position(words, records, &heads[..slots], times, paths, bytes, n, k);
     true
 }
 
@@ -55,7 +57,8 @@ pub fn try_current(
     if !lawful::cells::path_ok(path) {
         return false;
     }
-    numbers::set_current(words, records, heads, times, paths, bytes, path);
+    let slots = words[101] as usize;
+    numbers::set_current(words, records, &heads[..slots], times, paths, bytes, path);
     true
 }
 
@@ -77,6 +80,8 @@ pub fn try_close(
     if words[5 + 3 * n] == 0 {
         return false;
     }
-    numbers::close_number(words, records, heads, times, paths, bytes, n);
+    let slots = words[101] as usize;
+    numbers::close_number(words, records, &mut heads[..slots], times, paths, bytes, n);
+    extents::release(words, records, heads, times, paths, bytes);
     true
 }

@@ -16,7 +16,7 @@ use Rattle.model.proofs.Entries.{of-true}
 use Rattle.layout.specs.Fields.{kindOf}
 use Rattle.layout.specs.Rows.{nameTotal, treeFrom}
 use Rattle.layout.specs.Slots.{total}
-use Rattle.layout.specs.Store.{Store, most, room, count, mask, hereLength, live, rowsOf, metaAt, bytesAt, kindAt, nodeBy, nodeAt, state}
+use Rattle.layout.specs.Store.{Store, most, room, count, extent, mask, hereLength, live, rowsOf, metaAt, bytesAt, kindAt, nodeBy, nodeAt, state}
 use Rattle.layout.specs.Lawful.{rowsOk, uses, heldFrom, slotBy, slotOk, keptOk, numberOk, Exact, Lawful}
 use Rattle.layout.specs.Alike.{Spells}
 use Rattle.layout.proofs.Tables.{IsFile, file-found}
@@ -44,6 +44,7 @@ module _ (st st′ : Store) where
     pub mostSame : most st′ ≡ most st
     pub roomSame : room st′ ≡ room st
     pub countSame : count st′ ≡ count st
+    pub extentSame : extent st′ ≡ extent st
     pub rowsSame : rowsOf st′ ≡ rowsOf st
     pub space : nameTotal (live st′) + total (st′ .heads) ≤ room st
     pub slots : (i : ℕ) → After i
@@ -69,7 +70,7 @@ module _ (st st′ : Store) where
     -- ---- the files
 
     same-heads : length (st′ .heads) ≡ length (st .heads)
-    same-heads = omega (arith, v .exact .heads, l .exact .heads, v .mostSame)
+    same-heads = omega (arith, v .exact .heads, l .exact .heads, v .extentSame)
 
     file-before : (i : ℕ) (f : File) → fileOf (state st′ .files) i ≡ some f → fileOf (state st .files) i ≡ some f
     file-before i f e = go (file-found st′ (length (st′ .heads)) 0 i f e) (v .slots i)
@@ -116,6 +117,7 @@ module _ (st st′ : Store) where
           entryLimit = (omega (arith, l .entryLimit .0, v .mostSame), omega (arith, l .entryLimit .1, v .mostSame));
           byteLimit = (omega (arith, l .byteLimit .0, v .roomSame), omega (arith, l .byteLimit .1, v .roomSame));
           counted = omega (arith, l .counted, v .mostSame, v .countSame);
+          slotted = omega (arith, l .slotted, v .mostSame, v .extentSame);
           space = omega (arith, v .space, v .roomSame);
           entries = entries-after;
           slots = λ i k. slot-after i (omega (arith, k, same-heads));

@@ -7,7 +7,7 @@ use mathlib.Core.Path.{_≡_, refl, sym, ap, _∙_, subst}
 use Prim.Native.Nat.{ℕ, zero, suc, _+_, _*_, _-_, _≤_, _<_}
 use native.Mathlib.Omega.{arith}
 use lib.Dec.{T, eqb, leb, leb→le}
-use lib.ListN.{length, getD}
+use lib.ListN.{length, take, drop, getD}
 use borrow.Author.Tests.{eq-eqb, eqb-false}
 use Rattle.text.specs.Utf8.{Bytes}
 use Rattle.path.specs.Path.{names}
@@ -60,23 +60,27 @@ module _ (st st′ : Store) where
 
   -- ---- the open numbers
 
-  pub opens-same : ((j : ℕ) → holder st′ j ≡ holder st j) → ((j : ℕ) → position st′ j ≡ position st j) → ((j : ℕ) → keptLength st′ j ≡ keptLength st j) → st′ .paths ≡ st .paths
-      → (c i : ℕ) → opensFrom st′ c i ≡ opensFrom st c i
-  unfolding opensFrom
-  opens-same h p k e zero i = refl
-  opens-same h p k e (suc c) i = rw (opens-same h p k e c (suc i), h i, p i, k i, e) refl
+  module _ (w : (i : ℕ) → 5 ≤ i → i < 101 → getD (st′ .words) i 0 ≡ getD (st .words) i 0) (e : st′ .paths ≡ st .paths) where
+    opens-from : (c i : ℕ) → i + c ≤ 32 → opensFrom st′ c i ≡ opensFrom st c i
+    unfolding opensFrom
+    opens-from zero i h = refl
+    opens-from (suc c) i h =
+        let x = w (5 + 3 * i) (omega arith) (omega arith) in
+        let y = w (6 + 3 * i) (omega arith) (omega arith) in
+        let z = w (7 + 3 * i) (omega arith) (omega arith) in
+        λ j. keepIf (not (eqb (x j) 0)) (record { num = i; id = x j - 1; pos = y j; kept = names (take (z j) (drop (1024 * suc i) (e j))) }) (opens-from c (suc i) (omega arith) j)
+
+    -- the words of the numbers and the kept paths are as they were
+    pub opens-same : opensFrom st′ 32 0 ≡ opensFrom st 32 0
+    opens-same = opens-from 32 0 (omega arith)
 
   -- where no word is changed
   module _ (w : st′ .words ≡ st .words) where
     pub held-kept : (c i k : ℕ) → heldFrom st′ c i k ≡ heldFrom st c i k
     held-kept c i k = held-same k (λ j. ap (λ (ws : List ℕ). eqb (getD ws (5 + 3 * j) 0) (suc k)) w) c i
 
-    pub opens-kept : st′ .paths ≡ st .paths → (c i : ℕ) → opensFrom st′ c i ≡ opensFrom st c i
-    opens-kept =
-        opens-same
-        (λ j. ap (λ (ws : List ℕ). getD ws (5 + 3 * j) 0) w)
-        (λ j. ap (λ (ws : List ℕ). getD ws (6 + 3 * j) 0) w)
-        (λ j. ap (λ (ws : List ℕ). getD ws (7 + 3 * j) 0) w)
+    pub opens-kept : st′ .paths ≡ st .paths → opensFrom st′ 32 0 ≡ opensFrom st 32 0
+    opens-kept = opens-same (λ i l h. ap (λ (ws : List ℕ). getD ws i 0) w)
 
   -- one number: what F makes of the list with it is what F makes of the rest, with what it became
   abbrev pub Turn : (List Open → List Open) → ℕ → Type 0

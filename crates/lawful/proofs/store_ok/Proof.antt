@@ -1,7 +1,6 @@
 -- `store_ok` meets its contract: the limits, then the lengths, then the parts that the limits ask.
 -- Assumes nothing.
 use mathlib.Core.Path.{sym}
-use Prim.Native.Nat.{_+_}
 use native.Mathlib.Omega.{arith}
 use lib.ListN.{length, getD}
 use lib.Seq.{length-take-le}
@@ -29,9 +28,6 @@ returns-2 c = let a = c .before .before .before .before .before .before .before 
 shared-slice-read-slots : tie.Need-shared-slice-read-slots
 shared-slice-read-slots c = let a = c .before .before .before .before .before .before .before .before .before .before .args in let w = a .words .now in let m = told (Limits w) (not-false (c .before .before .before .before .limits-ok .result) (c .before .before .before .if1 .left)) (c .before .before .before .before .limits-ok .ensures) in omega (arith, m .words)
 
-add-slots : tie.Need-add-slots
-add-slots c = let a = c .before .before .before .before .before .before .before .before .before .before .args in let w = a .words .now in let m = told (Limits w) (not-false (c .before .before .before .before .limits-ok .result) (c .before .before .before .if1 .left)) (c .before .before .before .before .limits-ok .ensures) in omega (arith, m .entryLimit .1)
-
 shared-slice-read-room : tie.Need-shared-slice-read-room
 shared-slice-read-room c = let a = c .before .before .before .before .before .before .before .before .before .before .before .args in let w = a .words .now in let m = told (Limits w) (not-false (c .before .before .before .before .before .limits-ok .result) (c .before .before .before .before .if1 .left)) (c .before .before .before .before .before .limits-ok .ensures) in omega (arith, m .words)
 
@@ -39,7 +35,7 @@ shared-slice-read-count : tie.Need-shared-slice-read-count
 shared-slice-read-count c = let a = c .before .before .before .before .before .before .before .before .before .before .before .before .args in let w = a .words .now in let m = told (Limits w) (not-false (c .before .before .before .before .before .before .limits-ok .result) (c .before .before .before .before .before .if1 .left)) (c .before .before .before .before .before .before .limits-ok .ensures) in omega (arith, m .words)
 
 slice-aggregate-parts-ok : tie.Need-slice-aggregate-parts-ok
-slice-aggregate-parts-ok c = let a = c .before .before .before .before .before .before .before .before .before .before .before .before .before .args in let w = a .words .now in let m = told (Limits w) (not-false (c .before .before .before .before .before .before .before .limits-ok .result) (c .before .before .before .before .before .before .if1 .left)) (c .before .before .before .before .before .before .before .limits-ok .ensures) in sym (length-take-le 101 w (m .words))
+slice-aggregate-parts-ok c = let a = c .before .before .before .before .before .before .before .before .before .before .before .before .before .args in let w = a .words .now in let m = told (Limits w) (not-false (c .before .before .before .before .before .before .before .limits-ok .result) (c .before .before .before .before .before .before .if1 .left)) (c .before .before .before .before .before .before .before .limits-ok .ensures) in sym (length-take-le 102 w (m .words))
 
 slice-aggregate-parts-ok-2 : tie.Need-slice-aggregate-parts-ok-2
 slice-aggregate-parts-ok-2 c = let a = c .before .before .before .before .before .before .before .before .before .before .before .before .before .before .args in let w = a .words .now in let m = told (Limits w) (not-false (c .before .before .before .before .before .before .before .before .limits-ok .result) (c .before .before .before .before .before .before .before .if1 .left)) (c .before .before .before .before .before .before .before .before .limits-ok .ensures) in
@@ -49,7 +45,7 @@ slice-aggregate-parts-ok-2 c = let a = c .before .before .before .before .before
 slice-aggregate-parts-ok-3 : tie.Need-slice-aggregate-parts-ok-3
 slice-aggregate-parts-ok-3 c = let a = c .before .before .before .before .before .before .before .before .before .before .before .before .before .before .before .args in let w = a .words .now in let m = told (Limits w) (not-false (c .before .before .before .before .before .before .before .before .before .limits-ok .result) (c .before .before .before .before .before .before .before .before .if1 .left)) (c .before .before .before .before .before .before .before .before .before .limits-ok .ensures) in
     let l = told (Lengths w (length (a .records .now)) (length (a .heads .now)) (length (a .times .now)) (length (a .paths .now)) (length (a .bytes .now))) (not-false (c .before .before .before .before .before .before .before .lengths-ok .result) (c .before .before .before .before .before .before .if2 .left)) (c .before .before .before .before .before .before .before .lengths-ok .ensures) in
-    sym (length-take-le (getD w 0 0 + 32) (a .heads .now) (l .heads))
+    sym (length-take-le (getD w 101 0) (a .heads .now) (omega (arith, m .slotted, l .heads)))
 
 slice-aggregate-parts-ok-4 : tie.Need-slice-aggregate-parts-ok-4
 slice-aggregate-parts-ok-4 c = let a = c .before .before .before .before .before .before .before .before .before .before .before .before .before .before .before .before .args in let w = a .words .now in let m = told (Limits w) (not-false (c .before .before .before .before .before .before .before .before .before .before .limits-ok .result) (c .before .before .before .before .before .before .before .before .before .if1 .left)) (c .before .before .before .before .before .before .before .before .before .before .limits-ok .ensures) in
@@ -64,9 +60,9 @@ slice-aggregate-parts-ok-5 c = let a = c .before .before .before .before .before
 parts-ok-requires : tie.Need-parts-ok-requires
 parts-ok-requires c κs = let a = c .before .before .before .before .before .before .before .before .before .before .before .before .before .before .before .before .before .args in let w = a .words .now in let m = told (Limits w) (not-false (c .before .before .before .before .before .before .before .before .before .before .before .limits-ok .result) (c .before .before .before .before .before .before .before .before .before .before .if1 .left)) (c .before .before .before .before .before .before .before .before .before .before .before .limits-ok .ensures) in
     let l = told (Lengths w (length (a .records .now)) (length (a .heads .now)) (length (a .times .now)) (length (a .paths .now)) (length (a .bytes .now))) (not-false (c .before .before .before .before .before .before .before .before .before .lengths-ok .result) (c .before .before .before .before .before .before .before .before .if2 .left)) (c .before .before .before .before .before .before .before .before .before .lengths-ok .ensures) in (
-      omega (arith, length-take-le 101 w (m .words)),
+      omega (arith, length-take-le 102 w (m .words)),
       omega (arith, length-take-le (getD w 2 0) (a .records .now) (omega (arith, m .counted, l .records)), m .counted, m .entryLimit .1),
-      omega (arith, length-take-le (getD w 0 0 + 32) (a .heads .now) (l .heads), m .entryLimit .1),
+      omega (arith, length-take-le (getD w 101 0) (a .heads .now) (omega (arith, m .slotted, l .heads)), m .slotted, m .entryLimit .1),
       omega (arith, length-take-le 33792 (a .paths .now) (l .paths)),
       omega (arith, length-take-le (getD w 1 0) (a .bytes .now) (l .bytes), m .byteLimit .1),
     )
@@ -85,7 +81,6 @@ store-ok-spec =
     lengths-ok-requires
     returns-2
     shared-slice-read-slots
-    add-slots
     shared-slice-read-room
     shared-slice-read-count
     slice-aggregate-parts-ok

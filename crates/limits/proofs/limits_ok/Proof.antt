@@ -1,11 +1,11 @@
 -- `limits_ok` meets its contract, test by test.
 -- Assumes nothing.
-use Prim.Native.Nat.{_^_}
+use Prim.Native.Nat.{_+_}
 use native.Mathlib.Omega.{arith}
 use lib.ListN.{getD}
 use borrow.Author.Needs.{needs}
 use Rattle.limits.specs.Limits.{Limits}
-use Rattle.limits.proofs.Settling.{settle-lt}
+use Rattle.limits.proofs.Settling.{settle-le}
 use Rattle.limits.proofs.limits_ok.Statement.{statement}
 use Rattle.limits.proofs.limits_ok.Tie as tie
 
@@ -36,12 +36,21 @@ shared-slice-read-if6 c = omega arith
 returns-6 : tie.Need-returns-6
 returns-6 c = search needs
 
+shared-slice-read-if7 : tie.Need-shared-slice-read-if7
+shared-slice-read-if7 c = omega arith
+
+returns-7 : tie.Need-returns-7
+returns-7 c = search needs
+
 shared-slice-read-result : tie.Need-shared-slice-read-result
 shared-slice-read-result c = omega arith
 
-returns-7 : tie.Need-returns-7
-returns-7 c = let w = c .before .before .before .before .before .before .before .before .before .before .args .words .now in
-    settle-lt (getD w 3 0) (2 ^ 32) (Limits w) (λ h. record { words = omega arith; entryLimit = (omega arith, omega arith); byteLimit = (omega arith, omega arith); counted = omega arith; umask = h }) (λ m. m .umask)
+add-result : tie.Need-add-result
+add-result c = omega arith
+
+returns-8 : tie.Need-returns-8
+returns-8 c = let w = c .before .before .before .before .before .before .before .before .before .before .before .before .args .words .now in
+    settle-le (getD w 101 0) (getD w 0 0 + 32) (Limits w) (λ h. record { words = omega arith; entryLimit = (omega arith, omega arith); byteLimit = (omega arith, omega arith); counted = omega arith; umask = omega arith; slotted = h }) (λ m. m .slotted)
 
 pub limits-ok-spec : {M : Type 1} → statement M
 limits-ok-spec =
@@ -56,5 +65,8 @@ limits-ok-spec =
     returns-5
     shared-slice-read-if6
     returns-6
+    shared-slice-read-if7
+    returns-7
     shared-slice-read-result
-    returns-7)
+    add-result
+    returns-8)

@@ -25,7 +25,7 @@ slot-stat-requires c κs =
     let p = c .before .before .before .before .before .before .before .pre in
     let st = lent (g .words .now) (g .records .now) (g .heads .now) (g .times .now) (g .paths .now) (g .bytes .now) in
     let t = subst (Taken st) (sym (c .slot-of .ensures)) (taken st (p .0) (g .i) (p .1)) in
-    (t .low, omega (arith, t .low, p .0 .exact .heads, p .0 .exact .times), t .first, t .last)
+    (t .low, omega (arith, t .low, p .0 .exact .heads, p .0 .slotted, p .0 .exact .times), t .first, t .last)
 
 returns : tie.Need-returns
 returns c =

@@ -1,6 +1,5 @@
 -- `setup::set_up` meets its contract. Assumes nothing.
 use mathlib.Core.Path.{_∙_, sym}
-use native.Mathlib.Omega.{arith}
 use borrow.Author.Tests.{not-true, not-false}
 use Rattle.setup.proofs.Answers.{says-15, says-16, says-done}
 use Rattle.setup.proofs.Fits.{entry-room}
@@ -12,7 +11,6 @@ use Rattle.setup.proofs.set_up.Lts as lts
 use Rattle.setup.proofs.bytes_fit.Reads as bytes-fit-reads
 use Rattle.setup.proofs.entries_fit.Reads as entries-fit-reads
 use Rattle.setup.proofs.fresh_words.Reads as fresh-words-reads
-use Rattle.setup.proofs.zero_words.Reads as zero-words-reads
 
 entries-fit-requires : tie.Need-entries-fit-requires
 entries-fit-requires c κs = search needs
@@ -29,27 +27,15 @@ returns-2 c = says-16 _ _ _ _ _ _ _ _ (sym (c .before .before .before .entries-f
 fresh-words-requires : tie.Need-fresh-words-requires
 fresh-words-requires c κs = entry-room _ _ _ _ _ _ (sym (c .before .before .before .before .entries-fit .ensures) ∙ not-false _ (c .before .before .before .if1 .left)) .words
 
-add-zero-words : tie.Need-add-zero-words
-add-zero-words c =
-    let x = entry-room _ _ _ _ _ _ (sym (c .before .before .before .before .before .before .before .before .entries-fit .ensures) ∙ not-false _ (c .before .before .before .before .before .before .before .if1 .left)) in
-    omega (arith, x .limit .1)
-
-zero-words-requires : tie.Need-zero-words-requires
-zero-words-requires c κs = entry-room _ _ _ _ _ _ (sym (c .before .before .before .before .before .before .before .before .entries-fit .ensures) ∙ not-false _ (c .before .before .before .before .before .before .before .if1 .left)) .heads
-
 same-length : tie.Need-same-length
 same-length c = search needs
-
-same-length-2 : tie.Need-same-length-2
-same-length-2 c = search needs
 
 returns-3 : tie.Need-returns-3
 returns-3 c =
     says-done _ _ _ _ _ _ _ _
-    (sym (c .before .before .before .before .before .before .before .before .before .before .before .entries-fit .ensures) ∙ not-false _ (c .before .before .before .before .before .before .before .before .before .before .if1 .left)) _ _
-    (c .before .before .before .before .before .before .fresh-words .ensures)
-    (c .before .before .zero-words .ensures)
-    (sym (c .before .before .before .before .before .before .before .before .before .bytes-fit .ensures) ∙ not-false _ (c .before .before .before .before .before .before .before .before .if2 .left))
+    (sym (c .before .before .before .before .before .before .before .entries-fit .ensures) ∙ not-false _ (c .before .before .before .before .before .before .if1 .left)) _
+    (c .before .before .fresh-words .ensures)
+    (sym (c .before .before .before .before .before .bytes-fit .ensures) ∙ not-false _ (c .before .before .before .before .if2 .left))
 
 pub set-up-spec : {M : Type 1} → statement M
 set-up-spec =
@@ -60,8 +46,5 @@ set-up-spec =
     bytes-fit-requires
     returns-2
     fresh-words-requires
-    add-zero-words
-    zero-words-requires
     same-length
-    same-length-2
     returns-3)

@@ -7,13 +7,13 @@ use lib.ListN.{length}
 use borrow.Author.Tests.{not-false}
 use borrow.Author.Needs.{needs}
 use Rattle.layout.specs.Store.{lent}
-use Rattle.layout.specs.Lawful.{Lawful}
+use Rattle.extents.specs.Extents.{Roomy}
 use Rattle.timed.proofs.timed_contents.Statement.{statement}
 use Rattle.timed.proofs.timed_contents.Tie as tie
 
 abbrev Inv-loop : tie.InvT-loop
 Inv-loop words records heads₀ times₀ paths bytes₀ i a b n k₀ heads times bytes k =
-    Lawful (lent words records heads times paths bytes) × (k ≤ n) × (length heads ≡ length heads₀) × (length times ≡ length times₀) × (length bytes ≡ length bytes₀)
+    Roomy (lent words records heads times paths bytes) × (k ≤ n) × (length heads ≡ length heads₀) × (length times ≡ length times₀) × (length bytes ≡ length bytes₀)
 
 abbrev μ-loop : tie.MeasureT-loop
 μ-loop words records heads₀ times₀ paths bytes₀ i a b n k₀ heads times bytes k = n - k

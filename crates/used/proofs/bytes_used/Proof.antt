@@ -42,7 +42,7 @@ slice-aggregate-removed-bytes c = let l = c .before .before .before .before .bef
 removed-bytes-requires : tie.Need-removed-bytes-requires
 removed-bytes-requires c κs = let g = c .before .before .before .before .before .before .before .before .before .before .args in
     let l = c .before .before .before .before .before .before .before .before .before .before .pre in
-    (omega (arith, l .exact .heads, l .entryLimit .1), within (lent (g .words .now) (g .records .now) (g .heads .now) (g .times .now) (g .paths .now) (g .bytes .now)) l, once-all (lent (g .words .now) (g .records .now) (g .heads .now) (g .times .now) (g .paths .now) (g .bytes .now)) l)
+    (omega (arith, l .exact .heads, l .slotted, l .entryLimit .1), within (lent (g .words .now) (g .records .now) (g .heads .now) (g .times .now) (g .paths .now) (g .bytes .now)) l, once-all (lent (g .words .now) (g .records .now) (g .heads .now) (g .times .now) (g .paths .now) (g .bytes .now)) l)
 
 -- src/lib.rt:74:5
 add-result : tie.Need-add-result

@@ -4,7 +4,6 @@ use mir.Syntax.{w64}
 use mir.ValLaws.{toZ-ofZ}
 use Rattle.edits.proofs.Fills.{same-time}
 use Rattle.edits.proofs.Inserts.{depth-small, name-length, slot-small, may-open, may-fill, inserted}
-use Rattle.edits.proofs.Vacant.{not-full}
 use borrow.Author.Needs.{needs}
 use Rattle.edits.proofs.insert.insert_entry.Statement.{statement}
 use Rattle.edits.proofs.insert.insert_entry.Tie as tie
@@ -22,7 +21,7 @@ vacant-slot-requires : tie.Need-vacant-slot-requires
 vacant-slot-requires c κs =
     let g = c .before .before .before .before .before .before .before .before .before .args in
     let p = c .before .before .before .before .before .before .before .before .before .pre in
-    not-full _ (p .0) (p .2 .more)
+    p .3
 
 record-word-requires : tie.Need-record-word-requires
 record-word-requires c κs =

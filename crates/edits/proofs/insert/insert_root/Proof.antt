@@ -3,8 +3,7 @@ use mathlib.Core.Path.{refl}
 use mir.Syntax.{w64}
 use mir.ValLaws.{toZ-ofZ}
 use Rattle.edits.proofs.Fills.{same-time}
-use Rattle.edits.proofs.Rooting.{root-fits, rooted}
-use Rattle.edits.proofs.Vacant.{not-full}
+use Rattle.edits.proofs.Rooting.{rooted}
 use borrow.Author.Needs.{needs}
 use Rattle.edits.proofs.insert.insert_root.Statement.{statement}
 use Rattle.edits.proofs.insert.insert_root.Tie as tie
@@ -25,7 +24,7 @@ vacant-slot-requires : tie.Need-vacant-slot-requires
 vacant-slot-requires c κs =
     let g = c .before .before .before .before .before .before .before .before .args in
     let p = c .before .before .before .before .before .before .before .before .pre in
-    not-full _ (p .0) (root-fits (g .words .now) (g .records .now) (g .heads .now) (g .times .now) (g .paths .now) (g .bytes .now) (g .mode) (g .t) (p .0) (p .1) .more)
+    p .2
 
 record-word-requires : tie.Need-record-word-requires
 record-word-requires c κs = search needs

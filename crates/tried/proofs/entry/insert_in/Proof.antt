@@ -1,13 +1,29 @@
--- `insert_in` asks what the edit asks, and the edit leaves a lawful store.
+-- `insert_in` meets its contract: a slot is reserved, and what is left is a store.
 -- Assumes nothing.
-use borrow.Author.Tests.{not-false}
-use Rattle.edits.proofs.Inserts.{name-short}
+use mathlib.Core.Path.{refl}
+use native.Mathlib.Omega.{arith}
+use Rattle.extents.proofs.Parting.{part-back}
 use borrow.Author.Needs.{needs}
 use Rattle.tried.proofs.entry.insert_in.Statement.{statement}
 use Rattle.tried.proofs.entry.insert_in.Tie as tie
 
-spot-for-requires : tie.Need-spot-for-requires
-spot-for-requires c κs = search needs
+reserve-requires : tie.Need-reserve-requires
+reserve-requires c κs = search needs
+
+slice-read-slots : tie.Need-slice-read-slots
+slice-read-slots c = search needs
+
+slice-relend-prefix-insert-exact : tie.Need-slice-relend-prefix-insert-exact
+slice-relend-prefix-insert-exact c = search needs
+
+slice-aggregate-insert-exact : tie.Need-slice-aggregate-insert-exact
+slice-aggregate-insert-exact c = search needs
+
+insert-exact-requires : tie.Need-insert-exact-requires
+insert-exact-requires c κs = let v = c .before .before .before .before .before .before .before .before .before .before .reserve .ensures in (v .resized .roomy .lawful, λ h. v .free (omega (arith, h, v .resized .words 2 (λ e. omega arith), v .resized .words 0 (λ e. omega arith))))
+
+release-requires : tie.Need-release-requires
+release-requires c κs = part-back _ _ _ _ _ _ _ _ _ _ _ _ _ (c .before .before .before .before .before .before .before .before .before .before .before .before .before .before .before .before .before .before .before .before .before .before .before .before .before .reserve .ensures .resized .roomy) refl (c .before .before .before .before .before .before .before .before .before .before .before .before .before .before .insert-exact .kept .1 .1 .0) (c .before .before .before .before .before .before .before .before .before .before .before .before .before .before .insert-exact .kept .1 .0) (c .before .before .before .before .before .before .before .before .before .before .before .before .before .before .insert-exact .ensures)
 
 same-length : tie.Need-same-length
 same-length c = search needs
@@ -27,70 +43,19 @@ same-length-5 c = search needs
 returns : tie.Need-returns
 returns c = search needs
 
-insertable-requires : tie.Need-insertable-requires
-insertable-requires c κs = (c .before .before .before .before .before .before .before .before .before .before .before .before .before .before .before .before .before .before .before .pre, name-short (c .before .before .before .before .before .before .before .before .before .before .before .before .before .before .before .before .before .before .before .args .name .now) (c .before .before .before .before .before .before .spot-for .ensures (c .before .before .before .before .before .if1 .left) .1 .name))
-
-same-length-6 : tie.Need-same-length-6
-same-length-6 c = search needs
-
-same-length-7 : tie.Need-same-length-7
-same-length-7 c = search needs
-
-same-length-8 : tie.Need-same-length-8
-same-length-8 c = search needs
-
-same-length-9 : tie.Need-same-length-9
-same-length-9 c = search needs
-
-same-length-10 : tie.Need-same-length-10
-same-length-10 c = search needs
-
-returns-2 : tie.Need-returns-2
-returns-2 c = search needs
-
-insert-entry-requires : tie.Need-insert-entry-requires
-insert-entry-requires c κs = (c .before .before .before .before .before .before .before .before .before .before .before .before .before .before .before .before .before .before .before .before .before .before .before .before .before .before .pre, c .before .before .before .before .before .before .before .before .before .before .before .before .before .spot-for .ensures (c .before .before .before .before .before .before .before .before .before .before .before .before .if1 .left), c .before .before .before .before .before .before .insertable .ensures (not-false (c .before .before .before .before .before .before .insertable .result) (c .before .before .before .before .before .if2 .left)))
-
-same-length-11 : tie.Need-same-length-11
-same-length-11 c = search needs
-
-same-length-12 : tie.Need-same-length-12
-same-length-12 c = search needs
-
-same-length-13 : tie.Need-same-length-13
-same-length-13 c = search needs
-
-same-length-14 : tie.Need-same-length-14
-same-length-14 c = search needs
-
-same-length-15 : tie.Need-same-length-15
-same-length-15 c = search needs
-
-returns-3 : tie.Need-returns-3
-returns-3 c = let v = c .before .before .before .before .before .before .before .before .before .before .before .before .before .before .before .before .before .before .before .before .before .before .before .spot-for .ensures (c .before .before .before .before .before .before .before .before .before .before .before .before .before .before .before .before .before .before .before .before .before .before .if1 .left) in c .before .before .before .before .before .before .before .before .before .insert-entry .ensures (v .0) (v .1) .lawful
-
 pub insert-in-spec : {M : Type 1} → statement M
 insert-in-spec =
     tie.close
     (tie.spec
-    spot-for-requires
+    reserve-requires
+    slice-read-slots
+    slice-relend-prefix-insert-exact
+    slice-aggregate-insert-exact
+    insert-exact-requires
+    release-requires
     same-length
     same-length-2
     same-length-3
     same-length-4
     same-length-5
-    returns
-    insertable-requires
-    same-length-6
-    same-length-7
-    same-length-8
-    same-length-9
-    same-length-10
-    returns-2
-    insert-entry-requires
-    same-length-11
-    same-length-12
-    same-length-13
-    same-length-14
-    same-length-15
-    returns-3)
+    returns)

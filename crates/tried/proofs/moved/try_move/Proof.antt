@@ -1,6 +1,10 @@
 -- `try_move` is safe: the store is lawful, and the way is one that the entry may go.
 -- Assumes nothing.
+use mathlib.Core.Path.{sym}
+use native.Mathlib.Omega.{arith}
+use lib.Seq.{length-take-le}
 use borrow.Author.Tests.{not-false}
+use Rattle.extents.proofs.Parting.{part-within}
 use borrow.Author.Needs.{needs}
 use Rattle.tried.proofs.moved.try_move.Statement.{statement}
 use Rattle.tried.proofs.moved.try_move.Tie as tie
@@ -17,8 +21,14 @@ same-length-2 c = search needs
 returns : tie.Need-returns
 returns c = search needs
 
+shared-slice-read-slots : tie.Need-shared-slice-read-slots
+shared-slice-read-slots c = omega (arith, c .before .before .ready .ensures (not-false (c .before .before .ready .result) (c .before .if1 .left)) .lawful .exact .words)
+
+slice-aggregate-way-to : tie.Need-slice-aggregate-way-to
+slice-aggregate-way-to c = sym (length-take-le _ (c .before .before .before .before .before .before .before .before .before .before .before .before .before .args .heads .now) (part-within _ (c .before .before .before .before .ready .ensures (not-false (c .before .before .before .before .ready .result) (c .before .before .before .if1 .left)))))
+
 way-to-requires : tie.Need-way-to-requires
-way-to-requires c κs = c .before .before .before .ready .ensures (not-false (c .before .before .before .ready .result) (c .before .before .if1 .left))
+way-to-requires c κs = c .before .before .before .before .before .ready .ensures (not-false (c .before .before .before .before .before .ready .result) (c .before .before .before .before .if1 .left)) .lawful
 
 same-length-3 : tie.Need-same-length-3
 same-length-3 c = search needs
@@ -29,8 +39,11 @@ same-length-4 c = search needs
 returns-2 : tie.Need-returns-2
 returns-2 c = search needs
 
+slice-aggregate-move-entry : tie.Need-slice-aggregate-move-entry
+slice-aggregate-move-entry c = sym (length-take-le _ (c .before .before .before .before .before .before .before .before .before .before .before .before .before .before .before .before .before .before .args .heads .now) (part-within _ (c .before .before .before .before .before .before .before .before .before .ready .ensures (not-false (c .before .before .before .before .before .before .before .before .before .ready .result) (c .before .before .before .before .before .before .before .before .if1 .left)))))
+
 move-entry-requires : tie.Need-move-entry-requires
-move-entry-requires c κs = (c .before .before .before .before .before .before .before .ready .ensures (not-false (c .before .before .before .before .before .before .before .ready .result) (c .before .before .before .before .before .before .if1 .left)), c .before .before .before .way-to .ensures (c .before .before .if2 .left))
+move-entry-requires c κs = (c .before .before .before .before .before .before .before .before .before .before .ready .ensures (not-false (c .before .before .before .before .before .before .before .before .before .before .ready .result) (c .before .before .before .before .before .before .before .before .before .if1 .left)) .lawful, c .before .before .before .before .way-to .ensures (c .before .before .before .if2 .left))
 
 same-length-5 : tie.Need-same-length-5
 same-length-5 c = search needs
@@ -49,10 +62,13 @@ try-move-spec =
     same-length
     same-length-2
     returns
+    shared-slice-read-slots
+    slice-aggregate-way-to
     way-to-requires
     same-length-3
     same-length-4
     returns-2
+    slice-aggregate-move-entry
     move-entry-requires
     same-length-5
     same-length-6

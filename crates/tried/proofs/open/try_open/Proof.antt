@@ -3,7 +3,10 @@
 use mathlib.Core.Path.{sym, _∙_, subst}
 use native.Mathlib.Omega.{arith}
 use lib.Dec.{T}
+use lib.ListN.{getD}
+use lib.Seq.{length-take-le}
 use borrow.Author.Tests.{not-false}
+use Rattle.extents.proofs.Parting.{part-within}
 use borrow.Author.Needs.{needs}
 use Rattle.tried.proofs.open.try_open.Statement.{statement}
 use Rattle.tried.proofs.open.try_open.Tie as tie
@@ -39,7 +42,7 @@ mul-if3-2 : tie.Need-mul-if3-2
 mul-if3-2 c = search needs
 
 slice-read-if3 : tie.Need-slice-read-if3
-slice-read-if3 c = omega (arith, c .before .before .before .ready .ensures (not-false (c .before .before .before .ready .result) (c .before .before .if1 .left)) .exact .words)
+slice-read-if3 c = omega (arith, c .before .before .before .ready .ensures (not-false (c .before .before .before .ready .result) (c .before .before .if1 .left)) .lawful .exact .words)
 
 same-length-5 : tie.Need-same-length-5
 same-length-5 c = search needs
@@ -71,8 +74,14 @@ same-length-10 c = search needs
 returns-5 : tie.Need-returns-5
 returns-5 c = search needs
 
+slice-read-slots : tie.Need-slice-read-slots
+slice-read-slots c = omega (arith, c .before .before .before .before .before .before .before .before .ready .ensures (not-false (c .before .before .before .before .before .before .before .before .ready .result) (c .before .before .before .before .before .before .before .if1 .left)) .lawful .exact .words)
+
+slice-aggregate-file-slot : tie.Need-slice-aggregate-file-slot
+slice-aggregate-file-slot c = sym (length-take-le _ (c .before .before .before .before .before .before .before .before .before .before .before .before .before .before .before .before .before .before .before .args .heads .now) (part-within _ (c .before .before .before .before .before .before .before .before .before .before .ready .ensures (not-false (c .before .before .before .before .before .before .before .before .before .before .ready .result) (c .before .before .before .before .before .before .before .before .before .if1 .left)))))
+
 file-slot-requires : tie.Need-file-slot-requires
-file-slot-requires c κs = (c .before .before .before .before .before .before .before .before .before .ready .ensures (not-false (c .before .before .before .before .before .before .before .before .before .ready .result) (c .before .before .before .before .before .before .before .before .if1 .left)), subst T (sym (not-false (c .before .before .before .path-ok .result) (c .before .before .if5 .left)) ∙ c .before .before .before .path-ok .ensures) tt)
+file-slot-requires c κs = (c .before .before .before .before .before .before .before .before .before .before .before .ready .ensures (not-false (c .before .before .before .before .before .before .before .before .before .before .before .ready .result) (c .before .before .before .before .before .before .before .before .before .before .if1 .left)) .lawful, subst T (sym (not-false (c .before .before .before .before .before .path-ok .result) (c .before .before .before .before .if5 .left)) ∙ c .before .before .before .before .before .path-ok .ensures) tt)
 
 same-length-11 : tie.Need-same-length-11
 same-length-11 c = search needs
@@ -83,9 +92,11 @@ same-length-12 c = search needs
 returns-6 : tie.Need-returns-6
 returns-6 c = search needs
 
+slice-aggregate-open-number : tie.Need-slice-aggregate-open-number
+slice-aggregate-open-number c = sym (length-take-le _ (c .before .before .before .before .before .before .before .before .before .before .before .before .before .before .before .before .before .before .before .before .before .before .before .before .args .heads .now) (part-within _ (c .before .before .before .before .before .before .before .before .before .before .before .before .before .before .before .ready .ensures (not-false (c .before .before .before .before .before .before .before .before .before .before .before .before .before .before .before .ready .result) (c .before .before .before .before .before .before .before .before .before .before .before .before .before .before .if1 .left)))))
+
 open-number-requires : tie.Need-open-number-requires
-open-number-requires c κs = let low = c .before .before .if6 .left in
-    (c .before .before .before .before .before .before .before .before .before .before .before .before .before .ready .ensures (not-false (c .before .before .before .before .before .before .before .before .before .before .before .before .before .ready .result) (c .before .before .before .before .before .before .before .before .before .before .before .before .if1 .left)), omega (arith, c .before .before .before .before .before .before .before .before .before .before .before .if2 .left), c .before .before .before .before .before .before .before .before .before .if3 .left, subst T (sym (not-false (c .before .before .before .before .before .before .before .path-ok .result) (c .before .before .before .before .before .before .if5 .left)) ∙ c .before .before .before .before .before .before .before .path-ok .ensures) tt, c .before .before .before .file-slot .ensures (omega (arith, low)), omega (arith, low))
+open-number-requires c κs = let long = length-take-le (getD (c .before .before .before .before .before .before .before .before .before .before .before .before .before .before .before .before .before .before .before .before .before .before .before .before .before .args .words .now) 101 0) (c .before .before .before .before .before .before .before .before .before .before .before .before .before .before .before .before .before .before .before .before .before .before .before .before .before .args .heads .now) (part-within _ (c .before .before .before .before .before .before .before .before .before .before .before .before .before .before .before .before .ready .ensures (not-false (c .before .before .before .before .before .before .before .before .before .before .before .before .before .before .before .before .ready .result) (c .before .before .before .before .before .before .before .before .before .before .before .before .before .before .before .if1 .left)))) in (c .before .before .before .before .before .before .before .before .before .before .before .before .before .before .before .before .ready .ensures (not-false (c .before .before .before .before .before .before .before .before .before .before .before .before .before .before .before .before .ready .result) (c .before .before .before .before .before .before .before .before .before .before .before .before .before .before .before .if1 .left)) .lawful, omega (arith, c .before .before .before .before .before .before .before .before .before .before .before .before .before .before .if2 .left), c .before .before .before .before .before .before .before .before .before .before .before .before .if3 .left, subst T (sym (not-false (c .before .before .before .before .before .before .before .before .before .before .path-ok .result) (c .before .before .before .before .before .before .before .before .before .if5 .left)) ∙ c .before .before .before .before .before .before .before .before .before .before .path-ok .ensures) tt, c .before .before .before .before .file-slot .ensures (omega (arith, c .before .before .before .if6 .left, long)), omega (arith, c .before .before .before .if6 .left, long))
 
 same-length-13 : tie.Need-same-length-13
 same-length-13 c = search needs
@@ -121,10 +132,13 @@ try-open-spec =
     same-length-9
     same-length-10
     returns-5
+    slice-read-slots
+    slice-aggregate-file-slot
     file-slot-requires
     same-length-11
     same-length-12
     returns-6
+    slice-aggregate-open-number
     open-number-requires
     same-length-13
     same-length-14

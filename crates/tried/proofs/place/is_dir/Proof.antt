@@ -27,7 +27,7 @@ slot-of-requires c κs = search needs
 
 mul-kind-of : tie.Need-mul-kind-of
 mul-kind-of c = let b = c .before .before .before .before .before .before .before .before .before in let a = b .args in let st = lent (a .words .now) (a .records .now) (a .heads .now) (a .times .now) (a .paths .now) (a .bytes .now) in
-    omega (arith, slot-low st (b .pre) (a .i) (omega (arith, c .before .before .if1 .left)), c .slot-of .ensures, b .pre .exact .heads, b .pre .entryLimit .1)
+    omega (arith, slot-low st (b .pre) (a .i) (omega (arith, c .before .before .if1 .left)), c .slot-of .ensures, b .pre .exact .heads, b .pre .slotted, b .pre .entryLimit .1)
 
 shared-slice-read-kind-of : tie.Need-shared-slice-read-kind-of
 shared-slice-read-kind-of c = let b = c .before .before .before .before .before .before .before .before .before .before in let a = b .args in let st = lent (a .words .now) (a .records .now) (a .heads .now) (a .times .now) (a .paths .now) (a .bytes .now) in

@@ -1,7 +1,10 @@
 -- `try_close` is safe: the store is lawful, and the number is open.
 -- Assumes nothing.
+use mathlib.Core.Path.{refl, sym}
 use native.Mathlib.Omega.{arith}
+use lib.Seq.{length-take-le}
 use borrow.Author.Tests.{not-false}
+use Rattle.extents.proofs.Parting.{part-within, part-back}
 use borrow.Author.Needs.{needs}
 use Rattle.tried.proofs.state.try_close.Statement.{statement}
 use Rattle.tried.proofs.state.try_close.Tie as tie
@@ -43,7 +46,7 @@ mul-if3-2 : tie.Need-mul-if3-2
 mul-if3-2 c = search needs
 
 slice-read-if3 : tie.Need-slice-read-if3
-slice-read-if3 c = omega (arith, c .before .before .before .ready .ensures (not-false (c .before .before .before .ready .result) (c .before .before .if1 .left)) .exact .words)
+slice-read-if3 c = omega (arith, c .before .before .before .ready .ensures (not-false (c .before .before .before .ready .result) (c .before .before .if1 .left)) .lawful .exact .words)
 
 same-length-7 : tie.Need-same-length-7
 same-length-7 c = search needs
@@ -57,8 +60,20 @@ same-length-9 c = search needs
 returns-3 : tie.Need-returns-3
 returns-3 c = search needs
 
+slice-read-slots : tie.Need-slice-read-slots
+slice-read-slots c = omega (arith, c .before .before .before .before .before .ready .ensures (not-false (c .before .before .before .before .before .ready .result) (c .before .before .before .before .if1 .left)) .lawful .exact .words)
+
+slice-relend-prefix-close-number : tie.Need-slice-relend-prefix-close-number
+slice-relend-prefix-close-number c = part-within _ (c .before .before .before .before .before .before .ready .ensures (not-false (c .before .before .before .before .before .before .ready .result) (c .before .before .before .before .before .if1 .left)))
+
+slice-aggregate-close-number : tie.Need-slice-aggregate-close-number
+slice-aggregate-close-number c = sym (length-take-le _ (c .before .before .before .before .before .before .before .before .before .before .before .before .before .before .before .before .args .heads .now) (part-within _ (c .before .before .before .before .before .before .before .ready .ensures (not-false (c .before .before .before .before .before .before .before .ready .result) (c .before .before .before .before .before .before .if1 .left)))))
+
 close-number-requires : tie.Need-close-number-requires
-close-number-requires c κs = (c .before .before .before .before .before .before .before .ready .ensures (not-false (c .before .before .before .before .before .before .before .ready .result) (c .before .before .before .before .before .before .if1 .left)), omega arith, c .before .before .before .if3 .left)
+close-number-requires c κs = (c .before .before .before .before .before .before .before .before .ready .ensures (not-false (c .before .before .before .before .before .before .before .before .ready .result) (c .before .before .before .before .before .before .before .if1 .left)) .lawful, omega arith, c .before .before .before .before .if3 .left)
+
+release-requires : tie.Need-release-requires
+release-requires c κs = part-back _ _ _ _ _ _ _ _ _ _ _ _ _ (c .before .before .before .before .before .before .before .before .before .before .before .before .before .before .before .before .before .before .ready .ensures (not-false (c .before .before .before .before .before .before .before .before .before .before .before .before .before .before .before .before .before .before .ready .result) (c .before .before .before .before .before .before .before .before .before .before .before .before .before .before .before .before .before .if1 .left))) refl (c .before .before .before .before .before .before .before .before .before .close-number .kept .1 .1 .0) (refl) (c .before .before .before .before .before .before .before .before .before .close-number .ensures .lawful)
 
 same-length-10 : tie.Need-same-length-10
 same-length-10 c = search needs
@@ -93,7 +108,11 @@ try-close-spec =
     same-length-8
     same-length-9
     returns-3
+    slice-read-slots
+    slice-relend-prefix-close-number
+    slice-aggregate-close-number
     close-number-requires
+    release-requires
     same-length-10
     same-length-11
     same-length-12

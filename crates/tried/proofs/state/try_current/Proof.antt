@@ -1,8 +1,11 @@
 -- `try_current` is safe: the store is lawful, and the path is one that is kept.
 -- Assumes nothing.
 use mathlib.Core.Path.{sym, _∙_, subst}
+use native.Mathlib.Omega.{arith}
 use lib.Dec.{T}
+use lib.Seq.{length-take-le}
 use borrow.Author.Tests.{not-false}
+use Rattle.extents.proofs.Parting.{part-within}
 use borrow.Author.Needs.{needs}
 use Rattle.tried.proofs.state.try_current.Statement.{statement}
 use Rattle.tried.proofs.state.try_current.Tie as tie
@@ -40,8 +43,14 @@ same-length-6 c = search needs
 returns-3 : tie.Need-returns-3
 returns-3 c = search needs
 
+slice-read-slots : tie.Need-slice-read-slots
+slice-read-slots c = omega (arith, c .before .before .before .before .before .ready .ensures (not-false (c .before .before .before .before .before .ready .result) (c .before .before .before .before .if1 .left)) .lawful .exact .words)
+
+slice-aggregate-set-current : tie.Need-slice-aggregate-set-current
+slice-aggregate-set-current c = sym (length-take-le _ (c .before .before .before .before .before .before .before .before .before .before .before .before .before .before .before .before .args .heads .now) (part-within _ (c .before .before .before .before .before .before .before .ready .ensures (not-false (c .before .before .before .before .before .before .before .ready .result) (c .before .before .before .before .before .before .if1 .left)))))
+
 set-current-requires : tie.Need-set-current-requires
-set-current-requires c κs = (c .before .before .before .before .before .before .ready .ensures (not-false (c .before .before .before .before .before .before .ready .result) (c .before .before .before .before .before .if1 .left)), subst T (sym (not-false (c .before .before .before .path-ok .result) (c .before .before .if3 .left)) ∙ c .before .before .before .path-ok .ensures) tt)
+set-current-requires c κs = (c .before .before .before .before .before .before .before .before .ready .ensures (not-false (c .before .before .before .before .before .before .before .before .ready .result) (c .before .before .before .before .before .before .before .if1 .left)) .lawful, subst T (sym (not-false (c .before .before .before .before .before .path-ok .result) (c .before .before .before .before .if3 .left)) ∙ c .before .before .before .before .before .path-ok .ensures) tt)
 
 same-length-7 : tie.Need-same-length-7
 same-length-7 c = search needs
@@ -67,6 +76,8 @@ try-current-spec =
     same-length-5
     same-length-6
     returns-3
+    slice-read-slots
+    slice-aggregate-set-current
     set-current-requires
     same-length-7
     same-length-8

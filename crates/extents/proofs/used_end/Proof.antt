@@ -3,11 +3,10 @@
 use mathlib.Core.Path.{_≡_}
 use Prim.Native.Nat.{ℕ, _≤_}
 use native.Mathlib.Omega.{arith}
-use lib.ListN.{length, getD}
-use borrow.Author.Needs.{needs}
-use Rattle.lawful.proofs.Ending.{zeros-one}
-use Rattle.lawful.proofs.unused.used_end.Statement.{statement}
-use Rattle.lawful.proofs.unused.used_end.Tie as tie
+use lib.ListN.{length, getD, List·getD-eq-default}
+use Rattle.extents.proofs.Ending.{zeros-one}
+use Rattle.extents.proofs.used_end.Statement.{statement}
+use Rattle.extents.proofs.used_end.Tie as tie
 
 abbrev Inv-loop : tie.InvT-loop
 Inv-loop heads e₀ e = (e ≤ length heads) × ((k : ℕ) → e ≤ k → getD heads k 0 ≡ 0)
@@ -15,11 +14,8 @@ Inv-loop heads e₀ e = (e ≤ length heads) × ((k : ℕ) → e ≤ k → getD 
 abbrev μ-loop : tie.MeasureT-loop
 μ-loop heads e₀ e = e
 
-unused-from-requires : tie.Need-unused-from-requires Inv-loop μ-loop
-unused-from-requires c κs = search needs
-
 loop-holds : tie.Need-loop-holds Inv-loop μ-loop
-loop-holds c = c .unused-from .ensures
+loop-holds c = (omega arith, λ k h. List·getD-eq-default (c .args .heads .now) 0 h)
 
 sub-k : tie.Need-sub-k Inv-loop μ-loop
 sub-k c = omega arith
@@ -31,16 +27,16 @@ shared-slice-read-if1 : tie.Need-shared-slice-read-if1 Inv-loop μ-loop
 shared-slice-read-if1 c = omega arith
 
 returns : tie.Need-returns Inv-loop μ-loop
-returns c = c .before .before .before .loop .inv
+returns c = (c .before .before .before .loop .inv .0, c .before .before .before .loop .inv .1, λ p q. c .if1 .taken q)
 
 loop-less : tie.Need-loop-less Inv-loop μ-loop
 loop-less c = omega arith
 
 loop-again : tie.Need-loop-again Inv-loop μ-loop
-loop-again c = let l = c .before .before .before .loop in (omega arith, zeros-one (c .before .before .before .before .before .before .args .heads .now) (l .e) (omega arith) (c .if1 .left) (l .inv .1))
+loop-again c = let l = c .before .before .before .loop in (omega arith, zeros-one (c .before .before .before .before .args .heads .now) (l .e) (omega arith) (c .if1 .left) (l .inv .1))
 
 returns-2 : tie.Need-returns-2 Inv-loop μ-loop
-returns-2 c = c .before .loop .inv
+returns-2 c = (c .before .loop .inv .0, c .before .loop .inv .1, λ p. absurd (omega (arith, c .loop-test .left)))
 
 pub used-end-spec : {M : Type 1} → statement M
 used-end-spec =
@@ -48,7 +44,6 @@ used-end-spec =
     (tie.spec
     Inv-loop
     μ-loop
-    unused-from-requires
     loop-holds
     sub-k
     mul-if1

@@ -1,5 +1,5 @@
--- A store with room for an entry has a free slot: each slot in use has an entry or a file number, and there are fewer of these than
--- slots.
+-- A store that has all slots that the limits allow, and room for an entry, has a free slot: each slot in use has an entry or a file
+-- number, and there are fewer of these than slots.
 -- Assumes nothing.
 use mathlib.Core.Bool.{Bool, cond}
 use mathlib.Core.List.{List, [], _∷_}
@@ -14,7 +14,7 @@ use lib.ListN.{length, getD}
 use borrow.Author.Tests.{eq-eqb, ne-eqb}
 use Rattle.model.proofs.Contents.{or-elim}
 use Rattle.layout.specs.Rows.{Row}
-use Rattle.layout.specs.Store.{Store, most, count, live, holder, rowsOf, kindAt}
+use Rattle.layout.specs.Store.{Store, most, count, extent, slotsFor, live, holder, rowsOf, kindAt}
 use Rattle.layout.specs.Lawful.{uses, heldFrom, Lawful}
 use Rattle.layout.proofs.Roots.{all-slots}
 use Rattle.layout.proofs.Slotted.{SlotOf, free, directory, named, removed, target, slot-of}
@@ -22,8 +22,7 @@ use Rattle.layout.proofs.Sums.{sumFrom, sum-both, sum-none, sumRows, sum-rows}
 use Rattle.layout.proofs.Used.{live-length}
 use Rattle.layout.proofs.Named.{length-rows}
 use Rattle.slots.proofs.Frees.{full}
-use Rattle.slots.specs.Free.{freeFrom}
-use Rattle.slots.specs.declared.Slot.the-variants.{Full}
+use Rattle.slots.specs.Free.{HasFree}
 
 -- ---- sums
 
@@ -90,8 +89,8 @@ module _ (st : Store) (l : Lawful st) where
   used-slot k h (removed e u w) = omega (arith, held-stands st 32 0 k w)
   used-slot k h (target e y u w) = omega (arith, mul-one (uses k (rowsOf st)))
 
-  pub not-full : count st < most st → freeFrom (st .heads) 0 ≡ Full → ⊥
-  not-full h e =
+  pub not-full : slotsFor (most st) ≤ extent st → count st < most st → HasFree (st .heads)
+  not-full x h e =
       let n = length (st .heads) in
       let each = sum-less (λ i. 1) (λ k. uses k (rowsOf st) * 1 + standing st 32 0 k) n 0 (λ k a. used-slot k (full (st .heads) 0 k e (omega arith)) (slot-of st k (l .slots k (omega arith)))) in
       let rows = sum-rows (λ i. 1) n (rowsOf st) (all-slots (kindAt st) n (rowsOf st) (l .entries)) in

@@ -8,7 +8,7 @@ use native.Mathlib.Omega.{arith}
 use lib.Dec.{T, eqb, leb, ltb, eqb→eq}
 use lib.ListN.{length, take, drop, getD, List·getD-eq-default}
 use lib.Seq.{getD-take, length-take-le}
-use borrow.Author.Tests.{ne-eqb, le-leb, lt-ltb, ltb-true, ltb-false, eqb-true, eqb-false, not-false}
+use borrow.Author.Tests.{ne-eqb, le-leb, lt-ltb, ltb-true, ltb-false}
 use Rattle.text.specs.Utf8.{Bytes}
 use Rattle.path.proofs.Laws.{and-left, and-right, and-both}
 use Rattle.model.specs.Tree.{Path}
@@ -18,38 +18,23 @@ use Rattle.layout.specs.Fields.{slotOf, nlenOf, lenOf, kindOf}
 use Rattle.layout.specs.Rows.{rows, pathOf}
 use Rattle.layout.specs.Slots.{total, split, start, contents}
 use Rattle.layout.specs.Lawful.{follows, entryOk, walkOk, rootOk, rowsOk, slotBy}
-use Rattle.limits.specs.Settles.{Settles}
 use Rattle.marks.specs.Uses.{usesIn, standsFrom, Within}
-use Rattle.marks.proofs.ByKind.{settle}
 use Rattle.marks.proofs.Taking.{uses-at, uses-none, stands-at}
 use Rattle.entries.specs.Fits.{kindIn, rowAt}
 use Rattle.lawful.specs.Parts.{keptIn, numberIn, Parts}
 use Rattle.lawful.proofs.Slotting.{rows-within, number-stands}
 
 -- ---- words that are 0
 
--- one word more, behind
-pub zeros-more : (heads : List ℕ) (a i : ℕ) (used : Bool) → (used ≡ false → (k : ℕ) → a ≤ k → k < i → getD heads k 0 ≡ 0) → used || not (eqb (getD heads i 0) 0) ≡ false → (k : ℕ) → a ≤ k → k < i + 1 → getD heads k 0 ≡ 0
-zeros-more heads a i true f e k l h = absurd (let q : _≡_ {A = ℕ} 0 1 = cc in omega arith)
-zeros-more heads a i false f e k l h = go (eqb k i) refl
-  where
-    go : (t : Bool) → eqb k i ≡ t → getD heads k 0 ≡ 0
-    go true q = ap (λ (x : ℕ). getD heads x 0) (eqb-true k i q) ∙ eqb-true (getD heads i 0) 0 (not-false (eqb (getD heads i 0) 0) e)
-    go false q = f refl k l (omega (arith, eqb-false k i q))
-
--- words in front of those that are 0 to the end
-pub zeros-join : (heads : List ℕ) (a e : ℕ) → ((k : ℕ) → a ≤ k → k < e → getD heads k 0 ≡ 0) → ((k : ℕ) → e ≤ k → getD heads k 0 ≡ 0) → (k : ℕ) → a ≤ k → getD heads k 0 ≡ 0
-zeros-join heads a e f g k l = go (ltb k e) refl
+-- one word more in front of those that are 0 to the end
+pub zeros-one : (heads : List ℕ) (e : ℕ) → 0 < e → getD heads (e - 1) 0 ≡ 0 → ((k : ℕ) → e ≤ k → getD heads k 0 ≡ 0) → (k : ℕ) → e - 1 ≤ k → getD heads k 0 ≡ 0
+zeros-one heads e p z f k l = go (ltb k e) refl
   where
     go : (t : Bool) → ltb k e ≡ t → getD heads k 0 ≡ 0
-    go true q = f k l (ltb-true k e q)
-    go false q = g k (ltb-false k e q)
+    go true q = let x : e - 1 ≡ k = omega (arith, ltb-true k e q) in rw x at z
+    go false q = f k (ltb-false k e q)
 
--- one word
-pub zeros-one : (heads : List ℕ) (e : ℕ) → 0 < e → getD heads (e - 1) 0 ≡ 0 → ((k : ℕ) → e ≤ k → getD heads k 0 ≡ 0) → (k : ℕ) → e - 1 ≤ k → getD heads k 0 ≡ 0
-zeros-one heads e p z = zeros-join heads (e - 1) e (λ k l h. let q : e - 1 ≡ k = omega arith in rw q at z)
-
-pub total-end : (hs : List ℕ) (n : ℕ) → ((k : ℕ) → n ≤ k → getD hs k 0 ≡ 0) → total (take n hs) ≡ total hs
+total-end : (hs : List ℕ) (n : ℕ) → ((k : ℕ) → n ≤ k → getD hs k 0 ≡ 0) → total (take n hs) ≡ total hs
 unfolding total
 total-end [] zero z = refl
 total-end [] (suc n) z = refl
@@ -138,14 +123,14 @@ module _ (words recs heads : List ℕ) (paths bs : Bytes) (n : ℕ) (l : n ≤ l
   long : length (take n heads) ≡ n
   long = length-take-le n heads l
 
-  same-word : (k : ℕ) → getD (take n heads) k 0 ≡ getD heads k 0
+  pub same-word : (k : ℕ) → getD (take n heads) k 0 ≡ getD heads k 0
   same-word k = go (ltb k n) refl
     where
       go : (t : Bool) → ltb k n ≡ t → getD (take n heads) k 0 ≡ getD heads k 0
       go true e = getD-take n heads k 0 (ltb-true k n e)
       go false e = List·getD-eq-default (take n heads) 0 (omega (arith, long, ltb-false k n e)) ∙ sym (z k (ltb-false k n e))
 
-  same-bytes : (k : ℕ) → k < n → getD (contents (take n heads) bs) k [] ≡ getD (contents heads bs) k []
+  pub same-bytes : (k : ℕ) → k < n → getD (contents (take n heads) bs) k [] ≡ getD (contents heads bs) k []
   same-bytes k h = split-end heads n k (drop (start (take n heads) bs) bs) h ∙ ap (λ (t : ℕ). getD (split heads (drop (length bs - t) bs)) k []) (total-end heads n z)
 
   same-slot : (k : ℕ) → k < n → slotBy (kindOf (getD (take n heads) k 0)) (getD (take n heads) k 0) (usesIn k recs) (standsFrom words 32 0 k) (getD (contents (take n heads) bs) k [])
@@ -155,7 +140,7 @@ module _ (words recs heads : List ℕ) (paths bs : Bytes) (n : ℕ) (l : n ≤ l
       ∙ ap (λ (s : Bytes). slotBy (kindOf (getD heads k 0)) (getD heads k 0) (usesIn k recs) (standsFrom words 32 0 k) s) (same-bytes k h)
 
   -- with them
-  more : Parts words recs (take n heads) paths bs → Parts words recs heads paths bs
+  pub more : Parts words recs (take n heads) paths bs → Parts words recs heads paths bs
   more p = record {
     space = omega (arith, p .space, total-end heads n z);
     entries = rows-other (kindIn (take n heads)) (kindIn heads) (length (take n heads)) (length heads) (λ k. ap kindOf (same-word k)) recs bs (λ i h. omega (arith, within i h)) (p .entries);
@@ -176,7 +161,7 @@ module _ (words recs heads : List ℕ) (paths bs : Bytes) (n : ℕ) (l : n ≤ l
           slot-none (getD heads k 0) (usesIn k recs) (standsFrom words 32 0 k) (getD (contents heads bs) k []) (z k h) (uses-none n k recs within h) (stands-none words n k 32 0 h (λ j a b. stands j (omega arith)))
 
   -- without them
-  less : Parts words recs heads paths bs → Parts words recs (take n heads) paths bs
+  pub less : Parts words recs heads paths bs → Parts words recs (take n heads) paths bs
   less p = record {
     space = omega (arith, p .space, total-end heads n z);
     entries = rows-other (kindIn heads) (kindIn (take n heads)) (length heads) (length (take n heads)) (λ k. ap kindOf (sym (same-word k))) recs bs (λ i h. omega (arith, long, within i h)) (p .entries);
@@ -207,6 +192,3 @@ module _ (words recs heads : List ℕ) (paths bs : Bytes) (n : ℕ) (l : n ≤ l
               let b : x ≤ length heads = number-stands words paths (length heads) j (p .kept .numbers j h) in
               absurd (subst T (sym (stands-at words 32 0 j (x - 1) (omega arith) (omega arith) (omega arith)) ∙ none (x - 1) (omega arith) (omega arith) .1) tt)
           go false e = ltb-false n (getD words (5 + 3 * j) 0) e
-
-  pub parts-end : (r : Bool) → Settles r (Parts words recs (take n heads) paths bs) → Settles r (Parts words recs heads paths bs)
-  parts-end r = settle r more less
