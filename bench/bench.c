@@ -126,7 +126,20 @@ static double time_of(Loop *loop, const Input *i) {
     return best;
 }
 
-static int missed;
+static int missed, below;
+static double empty; /* what a call takes that does nothing */
+
+/* A goal that is less than an empty call takes is one that nothing which is called can meet. */
+static const char *verdict(double ns, size_t bytes, double goal) {
+    if (ns <= goal * (double)bytes)
+        return "met";
+    if (goal * (double)bytes < empty) {
+        below++;
+        return "< call";
+    }
+    missed++;
+    return "MISSED";
+}
 
 /* theirs: 0 where Rust has nothing to stand beside it. goal: nanoseconds a byte; 0: none is set. */
 static void line(const char *name, Loop *ours, Loop *theirs, Input i, double goal) {
@@ -147,11 +160,9 @@ static void line(const char *name, Loop *ours, Loop *theirs, Input i, double goa
     } else
         printf(" %8s | %5s |", "-", "-");
     if (goal > 0)
-        printf(" %4.1f %-6s |\n", goal, each <= goal ? "met" : "MISSED");
+        printf(" %4.1f %-6s |\n", goal, verdict(a, bytes, goal));
     else
         printf(" %-11s |\n", "-");
-    if (goal > 0 && each > goal)
-        missed++;
 }
 
 static Text text_of(const char *s) {
@@ -196,9 +207,20 @@ static Text behind(const char *first, Text t) {
     return t;
 }
 
+/* A line for each of n short inputs, called as they are. */
+static void each_of(const char *what, const char *const *inputs, size_t n, Loop *ours, Loop *theirs, double goal) {
+    for (size_t i = 0; i < n; i++) {
+        char name[64];
+        Text t = text_of(inputs[i]);
+        snprintf(name, sizeof name, "%s: %s", what, inputs[i]);
+        line(name, ours, theirs, (Input){&t, 0, 0}, goal);
+    }
+}
+
 /* What a call takes that looks at no byte, in the same loop: no line below can be under it. */
 static void calls(void) {
     Text one = text_of("a");
+    empty = time_of(nothing_text, &(Input){&one, 0, 0});
     line("call: nothing done, given a text", nothing_text, 0, (Input){&one, 0, 0}, 0);
     line("call: nothing done, given a buffer and a path", nothing_path, 0, (Input){&one, 0, 0}, 0);
 }
@@ -213,12 +235,7 @@ static void texts(void) {
     Text mixed = repeated("/y26/caf\xc3\xa9/\xe6\x97\xa5\xe6\x9c\xac/\xf0\x9f\x98\x80 ok", 1024);
     line("text: ASCII", our_text, their_text, (Input){&ascii, 0, 0}, 0.6);
     line("text: an ASCII path of 28 bytes", our_text, their_text, (Input){&path, 0, 0}, 0.6);
-    for (size_t i = 0; i < sizeof FEW / sizeof *FEW; i++) {
-        char name[64];
-        Text t = text_of(FEW[i]);
-        snprintf(name, sizeof name, "text: %s", FEW[i]);
-        line(name, our_text, their_text, (Input){&t, 0, 0}, 0.6);
-    }
+    each_of("text", FEW, sizeof FEW / sizeof *FEW, our_text, their_text, 0.6);
     Text moon = text_of("/y26/moon"), cafe = text_of("caf\xc3\xa9");
     line("text: /y26/moon", our_text, their_text, (Input){&moon, 0, 0}, 0.6);
     line("text: café", our_text, their_text, (Input){&cafe, 0, 0}, 3);
@@ -269,12 +286,7 @@ static void normalizing(void) {
     line("normalize: moon/../jan.txt", our_normalize, their_normalize, (Input){&up_relative, 0, 0}, 3);
     line("normalize: /a/../b", our_normalize, their_normalize, (Input){&up_short, 0, 0}, 3);
     line("normalize: /", our_normalize, their_normalize, (Input){&root, 0, 0}, 3);
-    for (size_t i = 0; i < sizeof SHORT / sizeof *SHORT; i++) {
-        char name[64];
-        Text t = text_of(SHORT[i]);
-        snprintf(name, sizeof name, "normalize: %s", SHORT[i]);
-        line(name, our_normalize, their_normalize, (Input){&t, 0, 0}, 3);
-    }
+    each_of("normalize", SHORT, sizeof SHORT / sizeof *SHORT, our_normalize, their_normalize, 3);
 }
 
 /* Set times' reading, beside the Rust's normalising: the Rust has no such function. */
@@ -321,6 +333,6 @@ int main(void) {
     raw_reading();
     joining();
     following();
-    printf("\ngoals missed: %d\n", missed);
+    printf("\ngoals missed: %d; less than an empty call takes: %d\n", missed, below);
     return 0;
 }

@@ -155,12 +155,17 @@ def other_depth(draft, rng):
     return True
 
 
-def exchange_names(draft, rng):
+def exchange(draft, rng, field):
+    """Two entries with each other's name (1) or slot (2)."""
     a, b = entry(draft, rng), entry(draft, rng)
     if not a or a is b:
         return False
-    a[1], b[1] = b[1], a[1]
+    a[field], b[field] = b[field], a[field]
     return True
+
+
+def exchange_names(draft, rng):
+    return exchange(draft, rng, 1)
 
 
 def add_entry(draft, rng):
@@ -199,11 +204,7 @@ def remove_entry(draft, rng):
 # Damages of a draft: slots and what they hold.
 
 def exchange_slots(draft, rng):
-    a, b = entry(draft, rng), entry(draft, rng)
-    if not a or a is b:
-        return False
-    a[2], b[2] = b[2], a[2]
-    return True
+    return exchange(draft, rng, 2)
 
 
 def slot_twice(draft, rng):

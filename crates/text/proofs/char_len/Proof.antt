@@ -2,8 +2,8 @@
 -- Assumes nothing.
 use mathlib.Core.Bool.{Bool, true, false, cond, not}
 use mathlib.Core.List.{[], _∷_}
-use mathlib.Core.Path.{_≡_, sym, _∙_}
-use Prim.Native.Nat.{_+_}
+use mathlib.Core.Path.{_≡_, sym, ap, _∙_}
+use Prim.Native.Nat.{ℕ, _+_}
 use native.Mathlib.Omega.{arith}
 use borrow.Author.Tests.{eq-eqb, ne-eqb, lt-ltb, le-ltb, not-true, not-false}
 use lib.Dec.{eqb, ltb}
@@ -108,10 +108,10 @@ tail-at-requires-2 : tie.Need-tail-at-requires-2
 tail-at-requires-2 c κs = search needs
 
 returns-7 : tie.Need-returns-7
-returns-7 c = sym (rw (no (c .before .tail-at2 .ensures) (c .if7 .taken)) at (by-fourth (c .before .before)))
+returns-7 c = sym (by-fourth (c .before .before) ∙ ap (λ (t : Bool). cond {A = ℕ} t 4 0) (no (c .before .tail-at2 .ensures) (c .if7 .taken)))
 
 returns-8 : tie.Need-returns-8
-returns-8 c = sym (rw (yes (c .before .tail-at2 .ensures) (c .if7 .left)) at (by-fourth (c .before .before)))
+returns-8 c = sym (by-fourth (c .before .before) ∙ ap (λ (t : Bool). cond {A = ℕ} t 4 0) (yes (c .before .tail-at2 .ensures) (c .if7 .left)))
 
 pub char-len-spec : {M : Type 1} → statement M
 char-len-spec =
