@@ -1,4 +1,4 @@
-/* How long edits of a store take (`edits`, `removes` and `changes`, by way of the static library `timed`), on stores
+/* How long edits of a store take (`edit_entry` and `edit_slot`, by way of the static library `test_timed`), on stores
    that are written here as docs/LAYOUT.md says. Each call makes an edit many times and tests the store once; the time
    of that test is left out. Each line is the best of several runs. */
 #include <stdint.h>

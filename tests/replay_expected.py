@@ -1,9 +1,9 @@
 #!/usr/bin/env python3
-"""What crates/replay has to write, worked out without any of its code.
+"""What crates/test_replay has to write, worked out without any of its code.
 
-  python3 tests/replay_expected.py < crates/replay/stdin > crates/replay/stdout
+  python3 tests/replay_expected.py < crates/test_replay/stdin > crates/test_replay/stdout
 
-The form of a line and of an answer is that of crates/replay/src/main.rt.
+The form of a line and of an answer is that of crates/test_replay/src/main.rt.
 """
 import os
 import re

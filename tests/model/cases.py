@@ -1,5 +1,5 @@
 #!/usr/bin/env python3
-"""Cases written by hand from 01 and READING-OF-01: each call with the refusal or the answer that these pages say.
+"""Cases written by hand from 01 and docs/DECISIONS.md: each call with the refusal or the answer that these pages say.
 
 cases.py asks the checker whether the model answers so (`refl`), and for every case without short working buffers also runs the
 counted copy of the Rust (with what the driver adds: 2, 3, 4, 6, 14, 15, 16) and compares its answers with these. The states are compared by compare.py."""
@@ -76,6 +76,10 @@ def case(name, *steps, limits=BIG):
 # ---- 14 of the working buffers, before 2
 case("w14", (mkdir("/"), OK), (canon("/", work="@1023,1024"), 14), (canon("/", work="@1024,1023"), 14), (canon(b"/\xff", work="@1023,1024"), 14),
      (canon("/", work="@1024,1024"), ok(out="/")), (canon("/", work="@5000,1024"), ok(out="/")), (metan(7, work="@0,0"), 14), (metan(7), 4))
+WALKS = [canon("/"), cwd("/"), mkdir("/"), open_(0, "/f"), read("/f"), write("/f", "x"), copy("/f", "/g"), hard("/f", "/g"), link("t", "/l"), rmfile("/f"), rmdir("/d"), rmtree("/d"), rename("/f", "/g"), meta("/"), lmeta("/"),
+         readlink("/l"), chmod("/f", 1), utimes("/f", 1, 1), list_("/"), metan(0)]
+NONE = [(umask(1), ok(number=0o666)), (readn(1, 9), ok(out="x")), (seek(1, START, 0), OK), (setlen(1, 2), OK), (line("chmodn", [], [1, 7]), OK), (utimesn(1, 3, 4, 5), OK), (close(1), OK), (close(1), 4)]
+case("w14: each call that walks a path, and no other", (mkdir("/"), OK), (write("/f", "x"), OK), (open_(1, "/f"), OK), *((w + l, 14) for l in WALKS for w in ("@1023,1024 ", "@1024,0 ")), *(("@0,0 " + l, e) for l, e in NONE))
 
 # ---- 2
 BAD = [b"\0", b"\xff", b"\xc0\x80", b"\xc1\xbf", b"\xe0\x9f\x80", b"\xed\xa0\x80", b"\xf0\x8f\x80\x80", b"\xf4\x90\x80\x80", b"\xf5\x80\x80\x80", b"\xe2\x82", b"\x80", b"a\0b"]
@@ -90,6 +94,7 @@ FULL = "/" + "/".join([N(255), N(255), N(255), N(255)])  # 1,024 bytes
 assert len(FULL) == 1024
 case("3: names of 255 and 256", (mkdir("/"), OK), (canon("/" + N(255)), 8), (canon("/" + N(256)), 3), (canon("/" + N(256) + "/../"), 3), (mkdir("/" + N(255)), OK),
      (canon(N(255)), ok(out="/" + N(255))), (link(N(256), "/l"), 3), (link("/a/" + N(256) + "/..", "/l"), 3), (link(N(255), "/l"), OK), (rename("/a", N(256)), 3), (open_(99, N(256)), 3))
+case("3: current directory", (mkdir("/" + N(255)), OK), (cwd("/" + N(256)), 3), (cwd(FULL + "/"), 3), (cwd(N(255) + "/" + N(256) + "/.."), 3), (canon("."), ok(out="/")), (cwd(N(255)), OK), (canon("."), ok(out="/" + N(255))))
 case("3: paths of 1,024 and 1,025", (mkdir("/"), OK), (canon(FULL), 8), (canon(FULL + "/"), 3), (mkdir(FULL), OK), (canon(FULL), ok(out=FULL)), (canon("/" * 1024), ok(out="/")), (canon("/" * 1025), 3),
      (link(FULL, "/l"), OK), (link(FULL + "/", "/l"), 3), (readlink("/l"), ok(out=FULL)), (readlink("/l", 1023), 14), (canon("/l"), ok(1, out=FULL)), (canon("/l", 1023), 14), (canon("/l/a"), 6), (canon("/l/."), ok(1, out=FULL)))
 
@@ -108,7 +113,7 @@ case("5 and 8 on a fresh tree", (open_(0, "/", 1), 5), (read("/"), 5), (write("/
 DEEP = "/" + "/".join([N(249), N(249), N(249), N(249)])  # 1,000 bytes
 assert len(DEEP) == 1000
 case("6: made absolute", (mkdir(DEEP), OK), (cwd(DEEP), OK), (canon(N(23)), 8), (canon(N(24)), 6), (canon(N(200) + "/../" + N(23)), 8), (canon(N(200) + "/../../" + N(23)), 8), (canon(""), 8), (meta(""), ok(rows=[D])),
-     (mkdir(N(24)), 6), (mkdir(N(23)), OK), (cwd(N(23)), OK), (canon("."), ok(out=DEEP + "/" + N(23))), (canon("a"), 6), (canon(".."), ok(out=DEEP)), (meta(""), ok(rows=[D])), (rename("a", "/"), 6), (rename("/", "a"), 6), (rename("a", "a"), 6),
+     (mkdir(N(24)), 6), (mkdir(N(23)), OK), (cwd(N(23)), OK), (canon("."), ok(out=DEEP + "/" + N(23))), (canon("a"), 6), (cwd("a"), 6), (canon(".."), ok(out=DEEP)), (meta(""), ok(rows=[D])), (rename("a", "/"), 6), (rename("/", "a"), 6), (rename("a", "a"), 6),
      (copy("/none", "a"), 6), (copy("a", "/none"), 6), (hard("/none", "a"), 6), (link("t", "a"), 6), (rmtree("a"), 6), (open_(0, "a"), 6), (open_(32, "a"), 4), (list_("a"), 6), (readlink("a"), 6), (lmeta("a"), 6), (chmod("a", 1), 6),
      (utimes("a", 1, 1), 8), (read("a"), 6), (write("a", ""), 6), (rmfile("a"), 6), (rmdir("a"), 6), (rmdir("."), OK), (canon(".."), ok(out=DEEP)), (meta(""), 8))
 case("6: link on the way", (mkdir(DEEP), OK), (link(DEEP, "/l"), OK), (canon("/l/" + N(23)), 8), (canon("/l/" + N(24)), 6), (canon("/l/x/" + N(24)), 6), (open_(0, "/l/" + N(24), 1), 6), (write("/l/" + N(23), "x"), ok(1)),
@@ -116,6 +121,8 @@ case("6: link on the way", (mkdir(DEEP), OK), (link(DEEP, "/l"), OK), (canon("/l
 case("6: last link", (mkdir(DEEP), OK), (link(N(24), DEEP + "/l"), OK), (meta(DEEP + "/l"), 6), (lmeta(DEEP + "/l"), ok(rows=[L])), (readlink(DEEP + "/l"), ok(out=N(24))), (open_(0, DEEP + "/l", 1), 6), (mkdir(DEEP + "/l"), 6),
      (rename(DEEP + "/l", "/x"), 6), (link(N(23), DEEP + "/l"), OK), (meta(DEEP + "/l"), 8), (mkdir(DEEP + "/l"), ok(1)), (canon(DEEP + "/l"), ok(1, out=DEEP + "/" + N(23))), (link(N(200) + "/../" + N(24), DEEP + "/k"), OK), (canon(DEEP + "/k"), 6),
      (link(N(200) + "/../" + N(23), DEEP + "/k"), OK), (canon(DEEP + "/k"), ok(1, out=DEEP + "/" + N(23))), (rename("/y", DEEP + "/l"), 8), (write("/y", ""), OK), (link(N(24), DEEP + "/j"), OK), (rename("/y", DEEP + "/j"), 6))
+case("6: the path kept at open", (mkdir(DEEP), OK), (mkdir("/a"), OK), (write("/a/" + N(23), "x"), OK), (write("/a/" + N(24), "y"), OK), (open_(0, "/a/" + N(23)), OK), (open_(1, "/a/" + N(24)), OK), (rename("/a", "/z"), OK), (metan(1), 8),
+     (link(DEEP, "/a"), OK), (metan(0), 8), (metan(1), 6), (readn(1, 9), ok(out="y")), (write("/a/" + N(23), "12", 3), ok(1)), (metan(0), ok(1, rows=[F(2, 3)])), (metan(1, 0), 6), (metan(0, 0), 14))
 case("6: set times' raw ..", (mkdir(DEEP), OK), (link(DEEP, "/l"), OK), (utimes("/l" + "/.." * 8, 1, 1), 8), (utimes("/l" + "/.." * 9, 1, 1), 6), (utimes("/l" + "/../." * 8 + "//", 1, 1), 8), (canon("/l" + "/.." * 9), ok(out="/")), (utimes("/l", 1, 2), ok(1)),
      (meta(DEEP), ok(rows=[stat("d", 0, 0o755, [1, 1, 1, 2])])))
 case("6: deeper than a path can say", (mkdir("/a/" + N(255) + "/" + N(255) + "/" + N(255)), OK), (mkdir("/b/" + N(255, "m") + "/" + N(255, "m")), OK), (write("/a/" + N(255) + "/" + N(255) + "/" + N(255) + "/f", "x"), OK),
@@ -180,7 +187,16 @@ case("open", (mkdir("/d"), OK), (write("/f", "12345", 1), OK), (open_(0, "/f", 8
 case("metadata by number goes by the kept path", (mkdir("/d"), OK), (link("d", "/l"), OK), (open_(0, "/l/f", 1, 0, 3), ok(1)), (metan(0), ok(rows=[F(0, 3)])), (rename("/d", "/e"), OK), (metan(0), 8), (link("/e", "/d"), OK), (metan(0), ok(1, rows=[F(0, 3)])), (rename("/e/f", "/g"), OK), (metan(0), 8), (mkdir("/e/f"), OK),
      (metan(0), ok(1, rows=[D])), (rmdir("/e/f"), OK), (link("f", "/e/f"), OK), (metan(0), 7), (rmtree("/e"), OK), (write("/e", "x"), OK), (metan(0), 9), (setlen(0, 2), OK), (read("/g"), ok(out=b"\0\0")))
 
-# ---- READING section 3: rename
+# ---- kinds, the current directory, times by number
+case("kinds", (mkdir("/d/e"), OK), (write("/f", "x"), OK), (mkdir("/f"), 9), (mkdir("/f/a"), 9), (link("t", "/d"), 12), (link("t", "/f/a"), 9), (link("t", "/d/l"), OK), (rmfile("/f/a"), 9), (rmdir("/f/a"), 9), (rmtree("/f/a"), 9),
+     (rmtree("/f"), 10), (rmtree("/d/l"), 10), (rmdir("/f"), 10), (rmfile("/d"), 10), (rmfile("/d/l"), 10), (rmdir("/d"), 12), (rmtree("/none"), OK), (rmtree("/none/x"), 8), (rmtree("/d/x"), OK), (rmtree("/d"), OK), (rmtree("/d"), OK),
+     (list_("/"), names("f", rows=[F(1)])))
+case("current directory", (mkdir("/d/e"), OK), (link("d", "/l"), OK), (cwd("/l/e"), ok(1)), (canon("."), ok(out="/d/e")), (canon(".."), ok(out="/d")), (write("f", "x"), OK), (link("none", "/l"), OK), (canon("f"), ok(out="/d/e/f")),
+     (cwd(""), 8), (cwd("none"), 8), (cwd("f"), OK), (canon("."), ok(out="/d/e/f")), (canon("x"), 9), (rename("../f", "../../g"), OK), (canon(".."), ok(out="/d/e")), (canon("."), 8), (read("../../g"), ok(out="x")))
+case("times by number", (mkdir("/"), OK), (write("/f", "x", 1), OK), (open_(0, "/f"), OK), (utimesn(0, 1, 5, 6), OK), (meta("/f"), ok(rows=[F(1, [5, 1, 1, 1])])), (utimesn(0, 2, 7, 8), OK), (meta("/f"), ok(rows=[F(1, [5, 1, 1, 8])])),
+     (utimesn(0, 0, 2, 2), OK), (utimesn(0, 4, 2, 2), OK), (meta("/f"), ok(rows=[F(1, [5, 1, 1, 8])])), (utimesn(0, 3, -9, 9), OK), (meta("/f"), ok(rows=[F(1, [-9, 1, 1, 9])])))
+
+# ---- rename, across links and onto itself
 case("R1", (mkdir("/d"), OK), (write("/d/f", "x"), OK), (link("d", "/l"), OK), (rename("/d", "/l/x", 5), ok(1)), (list_("/"), names("d", "l", rows=[stat("d", 0, 0o755, 5), L])), (list_("/d"), names("x", rows=[D])), (list_("/d/x"), names("f", rows=[F(1)])))
 case("R2", (mkdir("/d/x"), OK), (write("/d/f", "x"), OK), (link("d", "/l"), OK), (rename("/d", "/l/x", 5), ok(1)), (list_("/d"), names("x", rows=[D])), (list_("/d/x"), names("f", "x", rows=[F(1), D])))
 case("R3", (mkdir("/d"), OK), (link("d", "/a"), OK), (link("a", "/l"), OK), (rename("/a", "/l/b", 5), ok(1 + 2)), (list_("/"), names("a", "d", "l", rows=[stat("d", 0, 0o755, 5), D, L])), (readlink("/a/b"), ok(out="d")), (canon("/a/b"), 8))

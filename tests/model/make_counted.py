@@ -33,7 +33,7 @@ fn measured(path: PathBuf) -> Result<PathBuf> {
 """)
 edit("          path = Cow::Owned(target_path);\n", "          path = Cow::Owned(measured(target_path)?);\n          links_add();\n")
 edit("          path = Cow::Owned(resolved_path);\n", "          path = Cow::Owned(measured(resolved_path)?);\n          links_add();\n")
-# rename finds the parents again, which is not counted (READING-OF-01, A 21)
+# rename finds the parents again, which is not counted (docs/DECISIONS.md, link counts)
 edit("""    // remove the source entry
     let from_parent = inner""", """    let links = LINKS.with(|l| l.get());
     // remove the source entry

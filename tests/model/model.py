@@ -18,26 +18,21 @@ use mathlib.Core.List.{List, [], _∷_}
 use mathlib.Core.Path.{_≡_, refl}
 use lib.IntN.{pos, negsuc}
 use Rattle.model.specs.Tree.{dir, file, link}
-use Rattle.model.specs.Calls
-use Rattle.model.specs.Calls.{State, freshState, Call, Work}
-use Rattle.model.proofs.Computing.{bytes}
+use Rattle.model.specs.Calls as Calls
+use Rattle.model.specs.Calls.{State, freshState, Call}
+use Rattle.model.proofs.Computing.{bytes, call, callWith}
 use Rattle.model.proofs.Codes.{tracedNumber, answerNumber, stateNumber}
-
-abbrev w : Work
-w = record { first = 1024; second = 1024 }
 """
 
-# word -> constructor and its arguments: w the working buffers, s the next text, n the next number, t the next number as a time
+# word -> constructor of Op and its arguments: s the next text, n the next number, t the next number as a time
 SHAPES = {
-    "canon": ("canonicalizeCall", "wsn"), "cwd": ("setCurrentDirCall", "ws"), "umask": ("setUmaskCall", "n"),
-    "mkdir": ("createDirCall", "wst"), "open": ("openCall", "wnsnnt"), "read": ("readCall", "wsn"),
-    "write": ("writeCall", "wsst"), "copy": ("copyCall", "wsst"), "hard": ("hardLinkCall", "wsst"), "link": ("linkCall", "wsst"),
-    "rmfile": ("removeFileCall", "ws"), "rmdir": ("removeDirCall", "ws"), "rmtree": ("removeTreeCall", "ws"),
-    "rename": ("renameCall", "wsst"), "meta": ("metadataCall", "wsn"), "lmeta": ("symlinkMetadataCall", "wsn"),
-    "readlink": ("readLinkCall", "wsn"), "chmod": ("setPermissionsCall", "wsn"), "utimes": ("setTimesCall", "wstt"),
-    "list": ("listCall", "wsnn"), "close": ("closeCall", "n"), "readn": ("readNumberCall", "nn"), "seek": ("seekCall", "nnn"),
-    "setlen": ("setLengthCall", "nn"), "chmodn": ("setModeCall", "nn"), "utimesn": ("setTimesNumberCall", "nntt"),
-    "metan": ("metadataNumberCall", "wnn"),
+    "canon": ("canonicalize", "sn"), "cwd": ("setCurrentDir", "s"), "umask": ("setUmask", "n"), "mkdir": ("createDir", "st"),
+    "open": ("openFile", "nsnnt"), "read": ("readFile", "sn"), "write": ("writeFile", "sst"), "copy": ("copyFile", "sst"),
+    "hard": ("hardLink", "sst"), "link": ("linkFile", "sst"), "rmfile": ("removeFile", "s"), "rmdir": ("removeDir", "s"),
+    "rmtree": ("removeTree", "s"), "rename": ("rename", "sst"), "meta": ("metadata", "sn"), "lmeta": ("symlinkMetadata", "sn"),
+    "readlink": ("readLink", "sn"), "chmod": ("setPermissions", "sn"), "utimes": ("setTimes", "stt"), "list": ("list", "snn"),
+    "close": ("closeNumber", "n"), "readn": ("readNumber", "nn"), "seek": ("seekNumber", "nnn"), "setlen": ("setLength", "nn"),
+    "chmodn": ("setModeNumber", "nn"), "utimesn": ("setTimesNumber", "nntt"), "metan": ("metadataNumber", "nn"),
 }
 
 
@@ -54,20 +49,19 @@ def time(n):
 
 
 def call(line):
-    """The antt form of a call line; a leading @A,B gives the lengths of the working buffers."""
+    """The antt form of a call line; a leading @A,B gives the lengths of the working buffers, which else have the least."""
     fields = line.split(" ")
-    work = "w"
+    make = "call"
     if fields[0].startswith("@"):
-        a, b = fields.pop(0)[1:].split(",")
-        work = "(record { first = %s; second = %s })" % (a, b)
+        make = "callWith (record { first = %s; second = %s })" % tuple(fields.pop(0)[1:].split(","))
     texts = [bytes.fromhex(f[1:]) for f in fields[1:] if f.startswith("x")]
     nums = [int(f) for f in fields[1:] if not f.startswith("x")]
     name, shape = SHAPES[fields[0]]
     args = []
     for c in shape:
-        args.append(work if c == "w" else text(texts.pop(0)) if c == "s" else str(nums.pop(0)) if c == "n" else time(nums.pop(0)))
+        args.append(text(texts.pop(0)) if c == "s" else str(nums.pop(0)) if c == "n" else time(nums.pop(0)))
     assert not texts and not nums, line
-    return "Calls.%s %s" % (name, " ".join(args))
+    return "%s (Calls.%s %s)" % (make, name, " ".join(args))
 
 
 # ---- what is expected, packed as Codes.antt does
@@ -173,19 +167,25 @@ def checked(source):
     return out
 
 
+def statement(i, job, pairs, wrong=False):
+    """That job number i gives these (result, state) pairs; without states, these results. A wrong one has another last digit."""
+    name, most, room, lines = job
+    told = "answerNumber" if pairs[0][1] is None else "tracedNumber"
+    number = packed([x for r, s in pairs for x in result_code(r) + ([] if s is None else state_digest(s))])
+    own = "t999999" if wrong else "t%d" % i
+    if wrong:
+        number = number[:-1] + str((int(number[-1]) + 1) % 10)
+    return "%s : %s j%d (freshState %d %d) ≡ %s\nunfolding %s\n%s = refl\n" % (own, told, i, most, room, number, told, own)
+
+
 def agree(jobs, expected):
     """jobs: (name, most, room, call lines); expected: for each its (result, state) pairs. Gives the indices of those that differ."""
     text = [HEAD]
-    for i, (name, most, room, lines) in enumerate(jobs):
-        code = [x for r, s in expected[i] for x in result_code(r) + state_digest(s)]
-        text.append(job_text(i, name, lines))
-        text.append("t%d : tracedNumber j%d (freshState %d %d) ≡ %s\nunfolding tracedNumber\nt%d = refl\n" % (i, i, most, room, packed(code), i))
-    # a last one that must be refused: the first job with another last digit
-    wrong = packed([x for r, s in expected[0] for x in result_code(r) + state_digest(s)])
-    wrong = wrong[:-1] + str((int(wrong[-1]) + 1) % 10)
-    text.append("t999999 : tracedNumber j0 (freshState %d %d) ≡ %s\nunfolding tracedNumber\nt999999 = refl\n" % (jobs[0][1], jobs[0][2], wrong))
-    out = checked("\n".join(text))
-    return refused(out)
+    for i, job in enumerate(jobs):
+        text += [job_text(i, job[0], job[3]), statement(i, job, expected[i])]
+    # a last one that must be refused
+    text.append(statement(0, jobs[0], expected[0], wrong=True))
+    return refused(checked("\n".join(text)))
 
 
 def refused(out):
@@ -242,7 +242,8 @@ def show(steps):
     found = {}
     for m in re.finditer(r"goal \? in `([as]\d+)`\n(.*?)(?=\n\S|\Z)", out, re.S):
         goal = " ".join(m.group(2).split())
-        n = re.search(r"ℕ\}? (1\d*) 0\b", goal)
+        # where the number took many steps, the checker does not go on to print the 0 behind it
+        n = re.search(r"ℕ\}? (1\d*) (?:0\b|…\[not reached\])", goal)
         found[m.group(1)] = Reader(n.group(1)) if n else goal[-200:]
     done = []
     for i in range(len(steps)):

@@ -24,9 +24,7 @@ unfoldable pub ownState : List Call → State → ℕ
 unfolding left packed runs pathCodes treeCodes fileCodes openCodes
 ownState j s = packed 1 (stateCode (left j s))
 """
-head, rest = model.HEAD.split("\nabbrev w : Work", 1)
-uses, defs = EXTRA.split("\n\n", 1)
-source = [head + uses + "\n\nabbrev w : Work" + rest + "\n" + defs]
+source = [model.HEAD + EXTRA.lstrip("\n")]
 for i, (name, most, room, lines) in enumerate(compare.read_jobs(sys.argv[1])[:10]):
     source.append(model.job_text(i, name, lines))
     for k, own, f in (("a", "ownAnswers", "answerNumber"), ("s", "ownState", "stateNumber")):

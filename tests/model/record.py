@@ -1,6 +1,7 @@
 #!/usr/bin/env python3
-"""Writes a sample of compared jobs as a table of the model (crates/model/proofs/Recorded.antt), which the gate works out without the
-Rust: record.py OUT KIND-SEED:JOBS...  reads OUT/KIND-SEED.jobs and OUT/KIND-SEED.counted, and takes the first JOBS jobs of each."""
+"""Writes a sample of compared jobs as a table of the model (crates/model/proofs/Tables/Recorded.antt), which the gate works out without the
+Rust: record.py OUT KIND-SEED:JOBS...  reads OUT/KIND-SEED.jobs and OUT/KIND-SEED.counted, and takes JOBS jobs of each: one after the
+other the job that has most of what no job before it has, a call with a refusal or with a link count."""
 import sys
 
 import compare
@@ -16,25 +17,22 @@ use lib.IntN.{pos, negsuc}
 use Rattle.text.specs.Utf8.{Bytes}
 use Rattle.model.specs.Tree.{Time}
 use Rattle.model.specs.Prog.{Kind, aDir, aFile, aLink, Stat}
-use Rattle.model.specs.Operations.{plain, number, text}
-use Rattle.model.specs.Calls
-use Rattle.model.specs.Calls.{freshState, Call, Work, Result, accepted, refusal}
-use Rattle.model.proofs.Computing.{bytes, answered}
-
-abbrev w : Work
-w = record { first = 1024; second = 1024 }
+use Rattle.model.specs.Operations.{plainReply, numberReply, bytesReply}
+use Rattle.model.specs.Calls as Calls
+use Rattle.model.specs.Calls.{freshState, Call, Result, accepted, refusal}
+use Rattle.model.proofs.Computing.{bytes, answered, call}
 
 -- accepted with the link count alone
 abbrev done : ℕ → Result
-done k = accepted (plain k)
+done k = accepted (plainReply k)
 
 -- with a number
 abbrev num : ℕ → ℕ → Result
-num n k = accepted (number n k)
+num n k = accepted (numberReply n k)
 
 -- with bytes
 abbrev txt : Bytes → ℕ → Result
-txt s k = accepted (text s k)
+txt s k = accepted (bytesReply s k)
 
 -- a record: kind, length, mode, then the times accessed, changed, created, modified
 abbrev row : Kind → ℕ → ℕ → Time → Time → Time → Time → Stat
@@ -42,7 +40,7 @@ row k size mode a c b m = record { kind = k; size = size; meta = record { mode =
 
 -- with bytes and records
 abbrev rows : ℕ → Bytes → List Stat → ℕ → Result
-rows n s rs k = accepted (record { number = n; out = s; rows = rs; links = k })
+rows n s rs k = accepted (record { number = n; out = s; rows = rs; linkCount = k })
 
 -- a call, and what it answered
 pub record Line : Type 0 where
@@ -91,19 +89,32 @@ def answer(r):
     return "num %d %d" % (r["number"], r["links"]) if r["number"] else "done %d" % r["links"]
 
 
+def shows(job):
+    return {(d["call"].split(" ")[0], d["r"], min(d["links"], 2)) for d in job[1]}
+
+
+def chosen(jobs, count, shown):
+    """That many of the jobs; shown has what the ones before them show, and then theirs too."""
+    for _ in range(count):
+        best = max(jobs, key=lambda j: len(shows(j) - shown))
+        shown |= shows(best)
+        yield best
+
+
 def main():
     print(HEAD)
-    names = []
+    names, shown = [], set()
     for what in sys.argv[2:]:
         kind, count = what.split(":")
-        jobs = compare.read_jobs("%s/%s.jobs" % (sys.argv[1], kind))[:int(count)]
-        for (name, most, room, lines), results in zip(jobs, compare.read_results("%s/%s.counted" % (sys.argv[1], kind))):
+        at = "%s/%s" % (sys.argv[1], kind)
+        jobs = list(zip(compare.read_jobs(at + ".jobs"), compare.read_results(at + ".counted")))
+        for (name, most, room, lines), results in chosen(jobs, int(count), shown):
             name = name.replace("-", "")
             names.append(name)
-            print("abbrev %s : Job\n%s =\n    record { most = %d; room = %d; lines =" % (name, name, most, room))
+            print("abbrev %s : Job\n%s =\n    record {\n      most = %d;\n      room = %d;\n      lines =" % (name, name, most, room))
             for line, r in zip(lines, results):
-                print("      (%s gives %s) ∷" % (model.call(line), answer(r)))
-            print("      [] }\n")
+                print("          (%s gives %s) ∷" % (model.call(line), answer(r)))
+            print("          [];\n    }\n")
             print("%s-so : AnswersSo %s\nunfolding answered callsOf answersOf\n%s-so = refl\n" % (name, name, name))
     print("-- every job answers as recorded\npub recorded : %s" % " × ".join("AnswersSo %s" % n for n in names))
     print("recorded = (%s)" % ", ".join("%s-so" % n for n in names))

@@ -1,9 +1,9 @@
 #!/usr/bin/env python3
-"""What crates/damaged has to write, worked out with reader.py and without any of its code.
+"""What crates/test_damaged has to write, worked out with reader.py and without any of its code.
 
-  python3 tests/store/damaged_expected.py < crates/damaged/stdin | cmp - crates/damaged/stdout
+  python3 tests/store/damaged_expected.py < crates/test_damaged/stdin | cmp - crates/test_damaged/stdout
 
-The form of a line and of an answer is that of crates/damaged/src/main.rt. The stores are made from the example of docs/LAYOUT.md.
+The form of a line and of an answer is that of crates/test_damaged/src/main.rt. The stores are made from the example of docs/LAYOUT.md.
 """
 import sys
 

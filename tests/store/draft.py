@@ -1,4 +1,4 @@
-"""A store that is being made up: its entries, slots, numbers and paths, and the line for crates/damaged that makes them.
+"""A store that is being made up: its entries, slots, numbers and paths, and the line for crates/test_damaged that makes them.
 
 A draft need not obey any rule. `written(draft)` gives every word that it asks for; `line(...)` gives the changes from the store that the
 line begins with.

@@ -1,9 +1,9 @@
 #!/usr/bin/env python3
-"""What crates/edited has to write, worked out without any of its code.
+"""What crates/test_edited has to write, worked out without any of its code.
 
-  python3 tests/store/edited_expected.py < crates/edited/stdin | cmp - crates/edited/stdout
+  python3 tests/store/edited_expected.py < crates/test_edited/stdin | cmp - crates/test_edited/stdout
 
-The form of a line and of an answer is that of crates/edited/src/main.rt; what an edit does is docs/LAYOUT.md and document 01. The tree
+The form of a line and of an answer is that of crates/test_edited/src/main.rt; what an edit does is docs/LAYOUT.md and document 01. The tree
 is one of objects: a directory holds its entries by name, an open number refers to a file. No slice of the store is modelled, so a
 record's number comes from a walk, and a slot's number is kept with what is in it.
 """

@@ -1,9 +1,9 @@
 #!/usr/bin/env python3
-"""Random stores given to crates/damaged, its verdicts compared with those of reader.py.
+"""Random stores given to crates/test_damaged, its verdicts compared with those of reader.py.
 
   python3 tests/store/random_damage.py COUNT SEED [PROGRAM]
 
-PROGRAM is target/bin/damaged where none is given. The same COUNT and SEED make the same lines. Writes how many stores were accepted and
+PROGRAM is target/bin/test_damaged where none is given. The same COUNT and SEED make the same lines. Writes how many stores were accepted and
 refused, by the lowest rule that is broken; ends with 1 where a verdict differs.
 """
 import random
@@ -79,7 +79,7 @@ def main():
     if len(sys.argv) not in (3, 4):
         sys.exit(__doc__)
     count, seed = int(sys.argv[1]), int(sys.argv[2])
-    program = sys.argv[3] if len(sys.argv) == 4 else 'target/bin/damaged'
+    program = sys.argv[3] if len(sys.argv) == 4 else 'target/bin/test_damaged'
     tally, differ = Counter(), []
     for batch in batches(made_lines(count, random.Random(seed))):
         compare(program, batch, tally, differ)

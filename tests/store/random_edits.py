@@ -1,9 +1,9 @@
 #!/usr/bin/env python3
-"""Random edits, made by crates/edited and by the model in edited_expected.py, and compared.
+"""Random edits, made by crates/test_edited and by the model in edited_expected.py, and compared.
 
   python3 tests/store/random_edits.py COUNT SEED [BINARY]
 
-COUNT edits in all, in scripts that each start from a fresh store and stay within what the program reads. BINARY is target/bin/edited
+COUNT edits in all, in scripts that each start from a fresh store and stay within what the program reads. BINARY is target/bin/test_edited
 where none is given. Writes how often each edit was made and refused, why, which states were reached, and how many scripts differ; ends
 with 1 where one does, after shortening the smallest such script.
 """
@@ -524,7 +524,7 @@ def main():
     if len(sys.argv) not in (3, 4):
         sys.exit(__doc__)
     count, seed = int(sys.argv[1]), int(sys.argv[2])
-    binary = sys.argv[3] if len(sys.argv) == 4 else 'target/bin/edited'
+    binary = sys.argv[3] if len(sys.argv) == 4 else 'target/bin/test_edited'
     rand = random.Random(seed)
     tally = Tally()
     differing = []

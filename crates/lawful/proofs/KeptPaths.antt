@@ -20,7 +20,7 @@ use Rattle.path.proofs.Laws.{and-left, and-right, and-both, same-equal, same-re
 use Rattle.model.proofs.Entries.{is-true}
 use Rattle.model.specs.Rules.{nameOk, namesOk, pathOk}
 use Rattle.layout.specs.Lawful.{cellOk}
-use Rattle.entries.specs.Fits.{formOk}
+use Rattle.lawful_entries.specs.Fits.{formOk}
 use Rattle.lawful.specs.Parts.{pieceOk}
 
 -- ---- names

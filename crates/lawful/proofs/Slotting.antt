@@ -19,9 +19,10 @@ use Rattle.layout.specs.Fields.{slotOf, nlenOf, lenOf, kindOf}
 use Rattle.layout.specs.Rows.{rows, pathOf}
 use Rattle.layout.specs.Slots.{contents}
 use Rattle.layout.specs.Lawful.{follows, entryOk, walkOk, rootOk, rowsOk, slotBy}
-use Rattle.limits.specs.Settles.{Settles}
-use Rattle.marks.specs.Uses.{usesIn, standsFrom, Within, Standing, SlotsRight}
-use Rattle.entries.specs.Fits.{rowAt}
+use Rattle.lawful_limits.specs.Settles.{Settles}
+use Rattle.slots.specs.Uses.{usesIn, standsFrom, Within, Standing}
+use Rattle.lawful_slots.specs.Uses.{SlotsRight}
+use Rattle.lawful_entries.specs.Fits.{rowAt}
 use Rattle.lawful.specs.Parts.{keptIn, numberIn, Kept, linkBy, LinksRight, SlotsHeld}
 
 slot-both : (k h u : ℕ) (held : Bool) (s : Bytes) → slotBy k h u held s ≡ slotBy k h u held [] && linkBy k s

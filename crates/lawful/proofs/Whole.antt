@@ -11,13 +11,13 @@ use lib.Seq.{getD-take, length-take-le, take-take}
 use Rattle.text.specs.Utf8.{Bytes}
 use Rattle.layout.specs.Rows.{rows, nameTotal}
 use Rattle.layout.specs.Slots.{total}
-use Rattle.layout.specs.Store.{Store, most, room, count, extent, live, slotsFor, kindAt, bytesAt, cut}
-use Rattle.layout.specs.Lawful.{rowsOk, heldFrom, slotBy, slotOk, Exact, Lawful, Long, Passes}
-use Rattle.marks.proofs.Rowed.{uses-rows}
-use Rattle.limits.specs.Settles.{Settles}
-use Rattle.marks.specs.Uses.{usesIn, standsFrom}
-use Rattle.entries.specs.Fits.{kindIn}
-use Rattle.limits.specs.Limits.{Limits, Lengths}
+use Rattle.layout.specs.Store.{Store, most, room, count, extent, live, slotsFor, kindAt, bytesAt, core}
+use Rattle.layout.specs.Lawful.{rowsOk, heldFrom, slotBy, slotOk, Exact, Lawful, Long, Keeps}
+use Rattle.slots.proofs.Rowed.{uses-rows}
+use Rattle.lawful_limits.specs.Settles.{Settles}
+use Rattle.slots.specs.Uses.{usesIn, standsFrom}
+use Rattle.lawful_entries.specs.Fits.{kindIn}
+use Rattle.lawful_limits.specs.Limits.{Limits, Lengths}
 use Rattle.lawful.specs.Parts.{Kept, SlotsHeld, Parts}
 
 -- ---- the parts
@@ -102,7 +102,7 @@ module _ (st : Store) where
     slotted = omega (arith, word 0 (omega arith), word 101 (omega arith), m .slotted);
   }
 
-  pub pass-limits : (Limits (st .words) → ⊥) → Passes st → ⊥
+  pub pass-limits : (Limits (st .words) → ⊥) → Keeps st → ⊥
   pass-limits n p = n (record {
     words = p .0 .words;
     entryLimit = (omega (arith, word 0 (omega arith), p .1 .entryLimit .0), omega (arith, word 0 (omega arith), p .1 .entryLimit .1));
@@ -112,18 +112,18 @@ module _ (st : Store) where
     slotted = omega (arith, word 0 (omega arith), word 101 (omega arith), p .1 .slotted);
   })
 
-  pub pass-lengths : (Lengths (st .words) (length (st .records)) (length (st .heads)) (length (st .times)) (length (st .paths)) (length (st .bytes)) → ⊥) → Passes st → ⊥
+  pub pass-lengths : (Lengths (st .words) (length (st .records)) (length (st .heads)) (length (st .times)) (length (st .paths)) (length (st .bytes)) → ⊥) → Keeps st → ⊥
   pass-lengths n p = n (record { records = p .0 .records; heads = p .0 .heads; times = p .0 .times; paths = p .0 .paths; bytes = p .0 .bytes })
 
   module _ (m : Limits (st .words)) (l : Lengths (st .words) (length (st .records)) (length (st .heads)) (length (st .times)) (length (st .paths)) (length (st .bytes))) where
     -- the records of the entries
-    records-live : live (cut st) ≡ take (count st) (st .records)
+    records-live : live (core st) ≡ take (count st) (st .records)
     records-live = ap (λ (n : ℕ). take n (take (most st) (st .records))) (word 2 (omega arith)) ∙ take-take (count st) (most st) (st .records) (m .counted)
 
     long : Long st
     long = record { words = m .words; records = l .records; heads = l .heads; times = l .times; paths = l .paths; bytes = l .bytes }
 
-    exact : Exact (cut st)
+    exact : Exact (core st)
     exact = record {
       words = length-take-le 102 (st .words) (m .words);
       records = length-take-le (most st) (st .records) (l .records) ∙ sym (word 0 (omega arith));
@@ -134,9 +134,9 @@ module _ (st : Store) where
     }
 
     -- the same parts
-    parts-cut : PartsIn (cut st) ≡ PartsOf
-    parts-cut = ap (λ (ws : List ℕ). Parts (cut st .words) ws (cut st .heads) (cut st .paths) (cut st .bytes)) records-live
+    parts-cut : PartsIn (core st) ≡ PartsOf
+    parts-cut = ap (λ (ws : List ℕ). Parts (core st .words) ws (core st .heads) (core st .paths) (core st .bytes)) records-live
 
-    pub pass-parts : (r : Bool) → Settles r PartsOf → Settles r (Passes st)
-    pass-parts true p = (long, parts-lawful (cut st) exact (limits-cut m) (subst (λ (x : Type 0). x) (sym parts-cut) p))
-    pass-parts false n = λ p. n (subst (λ (x : Type 0). x) parts-cut (lawful-parts (cut st) (p .1)))
+    pub pass-parts : (r : Bool) → Settles r PartsOf → Settles r (Keeps st)
+    pass-parts true p = (long, parts-lawful (core st) exact (limits-cut m) (subst (λ (x : Type 0). x) (sym parts-cut) p))
+    pass-parts false n = λ p. n (subst (λ (x : Type 0). x) parts-cut (lawful-parts (core st) (p .1)))

@@ -9,12 +9,13 @@ use lib.ListN.{length, take, drop, getD}
 use Rattle.text.specs.Utf8.{Bytes, text}
 use Rattle.path.specs.Path.{Name}
 use Rattle.model.specs.Rules.{targetOk}
+use Rattle.layout.specs.Numbers.{fileNumbers, hereAt, holderAt, keptAt, cellBytes}
 use Rattle.layout.specs.Fields.{kindOf}
 use Rattle.layout.specs.Rows.{rows, nameTotal}
 use Rattle.layout.specs.Slots.{total, contents}
 use Rattle.layout.specs.Lawful.{rowsOk, slotBy, cellOk}
-use Rattle.marks.specs.Uses.{usesIn, standsFrom}
-use Rattle.entries.specs.Fits.{kindIn, formOk}
+use Rattle.slots.specs.Uses.{usesIn, standsFrom}
+use Rattle.lawful_entries.specs.Fits.{kindIn, formOk}
 
 -- ---- kept paths
 
@@ -24,16 +25,16 @@ pieceOk n = formOk n && (leb (length n) 255 && text n)
 
 -- the path in a cell
 abbrev pub keptIn : Bytes → ℕ → ℕ → Bool
-keptIn paths i n = leb n 1024 && cellOk (take n (drop (1024 * i) paths))
+keptIn paths i n = leb n cellBytes && cellOk (take n (drop (cellBytes * i) paths))
 
 -- a file number, where there are n slots
 abbrev pub numberIn : List ℕ → Bytes → ℕ → ℕ → Bool
-numberIn words paths n j = eqb (getD words (5 + 3 * j) 0) 0 || (leb (getD words (5 + 3 * j) 0) n && keptIn paths (suc j) (getD words (7 + 3 * j) 0))
+numberIn words paths n j = eqb (getD words (holderAt j) 0) 0 || (leb (getD words (holderAt j) 0) n && keptIn paths (suc j) (getD words (keptAt j) 0))
 
 -- every file number and the current directory
 pub record Kept (words : List ℕ) (paths : Bytes) (n : ℕ) : Type 0 where
-  pub numbers : (j : ℕ) → j < 32 → T (numberIn words paths n j)
-  pub here : T (keptIn paths 0 (getD words 4 0))
+  pub numbers : (j : ℕ) → j < fileNumbers → T (numberIn words paths n j)
+  pub here : T (keptIn paths 0 (getD words hereAt 0))
 
 -- ---- slots
 
@@ -56,7 +57,7 @@ pub record NextLink (heads : List ℕ) (i from slot at : ℕ) : Type 0 where
 -- every slot
 abbrev pub SlotsHeld : List ℕ → List ℕ → List ℕ → Bytes → Type 0
 SlotsHeld words recs heads bs =
-    (k : ℕ) → k < length heads → T (slotBy (kindOf (getD heads k 0)) (getD heads k 0) (usesIn k recs) (standsFrom words 32 0 k) (getD (contents heads bs) k []))
+    (k : ℕ) → k < length heads → T (slotBy (kindOf (getD heads k 0)) (getD heads k 0) (usesIn k recs) (standsFrom words fileNumbers 0 k) (getD (contents heads bs) k []))
 
 -- ---- all
 

@@ -2,24 +2,29 @@
 ghost use mathlib.Core.Path.{_≡_};
 ghost use Prim.Native.Nat.{_+_, _-_, _≤_, _<_};
 ghost use lib.ListN.{length, drop};
+ghost use Rattle.layout.specs.Numbers.{extentAt, mostEntries, mostBytes, mostSlots};
 ghost use Rattle.model.specs.Rules.{targetOk};
 ghost use Rattle.layout.specs.Rows.{nameTotal};
 ghost use Rattle.layout.specs.Slots.{total};
-ghost use Rattle.limits.specs.Settles.{Settles};
-ghost use Rattle.marks.specs.Uses.{Within, Standing};
+ghost use Rattle.lawful_limits.specs.Settles.{Settles};
+ghost use Rattle.slots.specs.Uses.{Within, Standing};
 ghost use Rattle.lawful.specs.Parts.{LinksRight, NextLink, SlotsHeld};
+use layout::DEPTHS;
+use layout::KINDS;
+use layout::LENGTHS;
+use layout::NAME_LENGTHS;
 use path::lengths::lengths_ok;
 use text::text_ok;
 
 // The bytes of the names.
 pub fn names_total(recs: &[u64]) -> usize
-    requires { ⌜ length (now recs) ≤ 4096 ⌝ }
-    ensures { λ r. ⌜ (r ≡ nameTotal (now (recs .entry))) × (r ≤ 1048576) ⌝ }
+    requires { ⌜ length (now recs) ≤ mostEntries ⌝ }
+    ensures { λ r. ⌜ (r ≡ nameTotal (now (recs .entry))) × (r ≤ mostBytes) ⌝ }
 {
     let mut n: usize = 0;
     let mut i = 0;
     while i < recs.len() {
-        n += (recs[i] / 65536 % 256) as usize;
+        n += (recs[i] / DEPTHS % NAME_LENGTHS) as usize;
         i += 1;
     }
     n
@@ -27,13 +32,13 @@ pub fn names_total(recs: &[u64]) -> usize
 
 // The bytes of the slots.
 pub fn bytes_total(heads: &[u64]) -> usize
-    requires { ⌜ length (now heads) ≤ 4128 ⌝ }
+    requires { ⌜ length (now heads) ≤ mostSlots ⌝ }
     ensures { λ r. ⌜ (r ≡ total (now (heads .entry))) × (r ≤ 69256347648) ⌝ }
 {
     let mut n: usize = 0;
     let mut i = 0;
     while i < heads.len() {
-        n += (heads[i] % 16777216) as usize;
+        n += (heads[i] % LENGTHS) as usize;
         i += 1;
     }
     n
@@ -65,10 +70,10 @@ fn next_link(heads: &[u64], i: usize, from: usize) -> Place
     let mut at = from;
     while slot < heads.len() {
         let h = heads[slot];
-        if h / 16777216 % 256 == 3 {
+        if h / LENGTHS % KINDS == 3 {
             return Place { slot, at };
         }
-        at += (h % 16777216) as usize;
+        at += (h % LENGTHS) as usize;
         slot += 1;
     }
     Place { slot, at }
@@ -83,7 +88,7 @@ fn links_ok(heads: &[u64], bytes: &[u8], from: usize) -> bool
     while p.slot < heads.len() {
         let i = p.slot;
         let a = p.at;
-        let e = a + (heads[i] % 16777216) as usize;
+        let e = a + (heads[i] % LENGTHS) as usize;
         if !target_ok(&bytes[a..e]) {
             return false;
         }
@@ -94,10 +99,11 @@ fn links_ok(heads: &[u64], bytes: &[u8], from: usize) -> bool
 
 // Whether every slot is right.
 pub fn slots_held(words: &[u64], recs: &[u64], heads: &[u64], bytes: &[u8], from: usize) -> bool
-    requires { ⌜ (101 ≤ length (now words)) × (length (now heads) ≤ 4128) × Within (length (now heads)) (now recs) × Standing (now words) × (total (now heads) ≤ length (now bytes)) × (from ≡ length (now bytes) - total (now heads)) ⌝ }
+    requires { ⌜ (extentAt ≤ length (now words)) × (length (now heads) ≤ mostSlots) × Within (length (now heads)) (now recs)
+        × Standing (now words) × (total (now heads) ≤ length (now bytes)) × (from ≡ length (now bytes) - total (now heads)) ⌝ }
     ensures { λ r. ⌜ Settles r (SlotsHeld (now (words .entry)) (now (recs .entry)) (now (heads .entry)) (now (bytes .entry))) ⌝ }
 {
-    if !marks::slots_ok(words, recs, heads) {
+    if !lawful_slots::slots_ok(words, recs, heads) {
         return false;
     }
     links_ok(heads, bytes, from)

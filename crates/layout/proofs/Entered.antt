@@ -12,10 +12,10 @@ use lib.Dec.{T, eqb, leb, eqb→eq, leb→le}
 use lib.ListN.{length}
 use Rattle.path.proofs.Laws.{and-left, and-right}
 use Rattle.model.specs.Tree.{Path, Node, file, Entries, look, fileOf}
-use Rattle.model.specs.Calls.{isNamed, isHeld}
-use Rattle.model.proofs.Contents.{or-elim, or-left, or-right, at-named}
-use Rattle.model.proofs.Over.{file-inj}
-use Rattle.model.proofs.OverEdits.{dir-no-file, link-no-file}
+use Rattle.model.specs.Calls.States.{isNamed, isHeld}
+use Rattle.model.proofs.Demand.Contents.{or-elim, or-left, or-right, at-named}
+use Rattle.model.proofs.Demand.Over.{file-inj}
+use Rattle.model.proofs.Demand.OverEdits.{dir-no-file, link-no-file}
 use Rattle.layout.specs.Rows.{Row}
 use Rattle.layout.specs.Store.{Store, holder, keptLength, rowsOf, metaAt, bytesAt, kindAt, nodeAt, state}
 use Rattle.layout.specs.Lawful.{uses, heldFrom, keptOk, Lawful}

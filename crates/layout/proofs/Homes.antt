@@ -17,8 +17,8 @@ use Rattle.path.specs.Path.{Name}
 use Rattle.path.proofs.Laws.{and-left, and-right}
 use Rattle.model.specs.Tree.{Path, Meta, Node, dir, Entries, look}
 use Rattle.model.proofs.Entries.{clash, look-here, look-past}
-use Rattle.model.proofs.Sound.{IsDir}
-use Rattle.model.proofs.SoundEntries.{snoc-equal}
+use Rattle.model.proofs.Sound.Worlds.{IsDir}
+use Rattle.model.proofs.Sound.Entries.{snoc-equal}
 use Rattle.layout.specs.Rows.{Row, pathOf, pathBy, treeFrom}
 use Rattle.layout.specs.Lawful.{entryOk, walkOk}
 use Rattle.layout.proofs.Climbing.{none-below}

@@ -13,3 +13,7 @@ pub mod Entered
 pub mod Obeying
 pub mod Worded
 pub mod Zeros
+pub mod Edited
+pub mod Spelled
+pub mod Sizes
+pub mod Stores

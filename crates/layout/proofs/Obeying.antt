@@ -14,9 +14,9 @@ use Rattle.path.specs.Path.{names, body, same}
 use Rattle.path.proofs.Laws.{and-left, and-right}
 use Rattle.model.specs.Tree.{File, file, Open, fileOf}
 use Rattle.model.specs.Rules.{pathOk, metaOk, bytesOk, FileOk, NodeOk, Obeys}
-use Rattle.model.proofs.Sound.{OpenOk}
-use Rattle.model.proofs.SoundFiles.{meta-whole}
-use Rattle.model.proofs.SoundNumbers.{prefix-bytes}
+use Rattle.model.proofs.Sound.Worlds.{OpenOk}
+use Rattle.model.proofs.Sound.Files.{meta-whole}
+use Rattle.model.proofs.Sound.Numbers.{prefix-bytes}
 use Rattle.layout.specs.Fields.{lenOf, modeOf}
 use Rattle.layout.specs.Slots.{split, start}
 use Rattle.layout.specs.Store.{Store, holder, keptLength, hereLength, cell, rowsOf, metaAt, bytesAt, kindAt, nodeAt, state}

@@ -15,8 +15,8 @@ use Rattle.model.specs.Tree.{Path, Meta, Node, dir, look}
 use Rattle.model.specs.Prog.{isNil}
 use Rattle.model.specs.Rules.{namesOk, Once, newPath}
 use Rattle.model.proofs.Entries.{clash, some-inj, look-here, look-past, look-none}
-use Rattle.model.proofs.Sound.{IsDir, Rooted}
-use Rattle.model.proofs.SoundEntries.{snoc-root}
+use Rattle.model.proofs.Sound.Worlds.{IsDir, Rooted}
+use Rattle.model.proofs.Sound.Entries.{snoc-root}
 use Rattle.layout.specs.Rows.{Row, pathBy, pathOf, treeFrom}
 use Rattle.layout.specs.Lawful.{walkOk, rootOk, rowsOk}
 use Rattle.layout.proofs.Walks.{At, SlotsIn, walk-slots, at-names, walk-climbs, at-look}

@@ -14,7 +14,7 @@ use Rattle.text.specs.Utf8.{Bytes}
 use Rattle.path.proofs.Laws.{and-left, and-right, and-both}
 use Rattle.model.specs.Tree.{dir, file, link}
 use Rattle.model.specs.Rules.{targetOk}
-use Rattle.model.proofs.Contents.{or-elim, or-left, or-right}
+use Rattle.model.proofs.Demand.Contents.{or-elim, or-left, or-right}
 use Rattle.model.proofs.Entries.{of-true}
 use Rattle.layout.specs.Fields.{lenOf}
 use Rattle.layout.specs.Slots.{total, split, start}

@@ -13,9 +13,9 @@ use lib.Dec.{T, eqb, eqb→eq}
 use borrow.Author.Tests.{eqb-true, eqb-false, eq-eqb, ne-eqb, not-true}
 use Rattle.path.specs.Path.{names}
 use Rattle.model.specs.Tree.{File, Files, Open, orElse, keepIf, fileOf, openOf}
-use Rattle.model.specs.Calls.{isHeld}
+use Rattle.model.specs.Calls.States.{isHeld}
 use Rattle.model.specs.Rules.{Once, newFile, newNumber}
-use Rattle.model.proofs.Contents.{or-elim, or-left, or-right}
+use Rattle.model.proofs.Demand.Contents.{or-elim, or-left, or-right}
 use Rattle.layout.specs.Store.{Store, holder, position, keptLength, cell, metaAt, bytesAt, kindAt, filesFrom, opensFrom}
 use Rattle.layout.specs.Lawful.{heldFrom}
 use Rattle.layout.proofs.Numbered.{find, keepFrom, found, present, each-once}

@@ -10,9 +10,9 @@ use lib.Dec.{T, eqb}
 use lib.ListN.{length, take, getD}
 use lib.Seq.{length-take-le}
 use Rattle.path.specs.Path.{Name}
-use Rattle.model.specs.Tree.{Path, Node, keepIf, nameLength, targetLength, namesAndTargets, contents}
-use Rattle.model.specs.Calls.{bytesUsed, entriesUsed}
-use Rattle.model.proofs.Spacing.{last-name}
+use Rattle.model.specs.Tree.{Path, Node, keepIf, nameLength, targetLength, namesAndTargets, contentsLength}
+use Rattle.model.specs.Calls.States.{bytesUsed, entriesUsed}
+use Rattle.model.proofs.Demand.Spacing.{last-name}
 use Rattle.layout.specs.Fields.{lenOf}
 use Rattle.layout.specs.Rows.{Row, nameTotal, rows, pathBy, pathOf, treeFrom}
 use Rattle.layout.specs.Slots.{total}
@@ -70,13 +70,13 @@ module _ (kind : ℕ → ℕ) (n : ℕ) (f : ℕ → Node) where
 abbrev fileBytes : Store → ℕ → ℕ
 fileBytes st k = cond (eqb (kindAt st k) 2) (length (bytesAt st k)) 0
 
-contents-sum : (st : Store) (n k : ℕ) → contents (filesFrom st n k) ≡ sumFrom (fileBytes st) n k
-unfolding contents filesFrom sumFrom
+contents-sum : (st : Store) (n k : ℕ) → contentsLength (filesFrom st n k) ≡ sumFrom (fileBytes st) n k
+unfolding contentsLength filesFrom sumFrom
 contents-sum st zero k = refl
 contents-sum st (suc n) k = go (eqb (kindAt st k) 2) (contents-sum st n (suc k))
   where
-    go : (b : Bool) → contents (filesFrom st n (suc k)) ≡ sumFrom (fileBytes st) n (suc k)
-        → contents (keepIf b (k, fileAt st k) (filesFrom st n (suc k))) ≡ cond b (length (bytesAt st k)) 0 + sumFrom (fileBytes st) n (suc k)
+    go : (b : Bool) → contentsLength (filesFrom st n (suc k)) ≡ sumFrom (fileBytes st) n (suc k)
+        → contentsLength (keepIf b (k, fileAt st k) (filesFrom st n (suc k))) ≡ cond b (length (bytesAt st k)) 0 + sumFrom (fileBytes st) n (suc k)
     go true ih = ap (λ (m : ℕ). length (bytesAt st k) + m) ih
     go false ih = omega (arith, ih)
 

@@ -18,7 +18,7 @@ use Rattle.path.proofs.Laws.{and-left, and-right, and-both}
 use Rattle.model.specs.Tree.{Path, Node, look}
 use Rattle.model.specs.Rules.{nameOk, namesOk}
 use Rattle.model.proofs.Entries.{clash, some-inj, path-dec, look-here, look-past, look-none}
-use Rattle.model.proofs.SoundEntries.{names-left, names-both}
+use Rattle.model.proofs.Sound.Entries.{names-left, names-both}
 use Rattle.layout.specs.Rows.{Row, pathOf, pathBy, treeFrom}
 use Rattle.layout.specs.Lawful.{follows, entryOk, walkOk, uses}
 use Rattle.layout.proofs.Climbing.{Climbs}

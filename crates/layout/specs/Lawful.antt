@@ -12,10 +12,11 @@ use Rattle.path.specs.Path.{Name, names, body, same}
 use Rattle.model.specs.Tree.{Path, before}
 use Rattle.model.specs.Prog.{isNil}
 use Rattle.model.specs.Rules.{nameOk, pathOk, targetOk, timeOk, bytesOk}
+use Rattle.layout.specs.Numbers.{mostEntries, leastBytes, mostBytes, fileNumbers, wordCount, cellBytes, pathsBytes}
 use Rattle.layout.specs.Fields.{lenOf}
 use Rattle.layout.specs.Rows.{Row, nameTotal, pathOf}
 use Rattle.layout.specs.Slots.{total}
-use Rattle.layout.specs.Store.{Store, most, room, count, mask, hereLength, extent, holder, keptLength, cell, slotsFor, live, rowsOf, bytesAt, kindAt, cut}
+use Rattle.layout.specs.Store.{Store, most, room, count, mask, hereLength, extent, holder, keptLength, cell, slotsFor, live, rowsOf, bytesAt, kindAt, core}
 
 -- ---- entries
 
@@ -54,8 +55,8 @@ unfoldable pub heldFrom : Store → ℕ → ℕ → ℕ → Bool
 heldFrom st zero i k = false
 heldFrom st (suc n) i k = eqb (holder st i) (suc k) || heldFrom st n (suc i) k
 
--- A slot by its kind, its word, how many entries have it, whether a file number stands on it, and its bytes. "A slot in use is
--- named by exactly one record, or is a file without a name that a number is open on; a number stands on a file."
+-- A slot by its kind, its word, how many entries have it, whether a file number stands on it, and its bytes. A slot in use is
+-- named by exactly one record, or is a file without a name that a number is open on; a number stands on a file.
 abbrev pub slotBy : ℕ → ℕ → ℕ → Bool → Bytes → Bool
 slotBy zero h u held s = eqb h 0 && (eqb u 0 && not held)
 slotBy (suc zero) h u held s = eqb (lenOf h) 0 && (eqb u 1 && not held)
@@ -65,7 +66,7 @@ slotBy (suc (suc (suc (suc k)))) h u held s = false
 
 -- the slot k of a store
 abbrev pub slotOk : Store → ℕ → Bool
-slotOk st k = slotBy (kindAt st k) (getD (st .heads) k 0) (uses k (rowsOf st)) (heldFrom st 32 0 k) (bytesAt st k)
+slotOk st k = slotBy (kindAt st k) (getD (st .heads) k 0) (uses k (rowsOf st)) (heldFrom st fileNumbers 0 k) (bytesAt st k)
 
 -- ---- kept paths
 
@@ -75,7 +76,7 @@ cellOk s = pathOk (names s) && same (body (names s)) s
 
 -- the path in a cell
 abbrev pub keptOk : Store → ℕ → ℕ → Bool
-keptOk st i n = leb n 1024 && cellOk (cell st i n)
+keptOk st i n = leb n cellBytes && cellOk (cell st i n)
 
 -- a file number: closed, or on a slot, with the path kept at open
 abbrev pub numberOk : Store → ℕ → Bool
@@ -85,42 +86,38 @@ numberOk st n = eqb (holder st n) 0 || (leb (holder st n) (length (st .heads)) &
 
 -- each slice is as long as the limits ask, and the slots' words as the extent asks
 pub record Exact (st : Store) : Type 0 where
-  pub words : length (st .words) ≡ 102
+  pub words : length (st .words) ≡ wordCount
   pub records : length (st .records) ≡ most st
   pub heads : length (st .heads) ≡ extent st
   pub times : length (st .times) ≡ 4 * slotsFor (most st)
-  pub paths : length (st .paths) ≡ 33792
+  pub paths : length (st .paths) ≡ pathsBytes
   pub bytes : length (st .bytes) ≡ room st
 
 -- what every store obeys
 pub record Lawful (st : Store) : Type 0 where
   pub exact : Exact st
   -- "an entry limit of 1 to 4,096 and a byte limit of 256 to 1,048,576"
-  pub entryLimit : (1 ≤ most st) × (most st ≤ 4096)
-  pub byteLimit : (256 ≤ room st) × (room st ≤ 1048576)
+  pub entryLimit : (1 ≤ most st) × (most st ≤ mostEntries)
+  pub byteLimit : (leastBytes ≤ room st) × (room st ≤ mostBytes)
   pub counted : count st ≤ most st
-  -- "Room for 32 removed files beyond the entry limit"
+  -- room for 32 removed files beyond the entry limit
   pub slotted : extent st ≤ slotsFor (most st)
   -- names from the left, the bytes of the slots from the right
   pub space : nameTotal (live st) + total (st .heads) ≤ room st
   pub entries : T (rowsOk (kindAt st) (length (st .heads)) (rowsOf st))
   pub slots : (k : ℕ) → k < length (st .heads) → T (slotOk st k)
-  pub numbers : (n : ℕ) → n < 32 → T (numberOk st n)
+  pub numbers : (n : ℕ) → n < fileNumbers → T (numberOk st n)
   pub here : T (keptOk st 0 (hereLength st))
   pub umask : mask st < 2 ^ 32
 
 -- each slice is at least as long as the limits ask
 pub record Long (st : Store) : Type 0 where
-  pub words : 102 ≤ length (st .words)
+  pub words : wordCount ≤ length (st .words)
   pub records : most st ≤ length (st .records)
   pub heads : slotsFor (most st) ≤ length (st .heads)
   pub times : 4 * slotsFor (most st) ≤ length (st .times)
-  pub paths : 33792 ≤ length (st .paths)
+  pub paths : pathsBytes ≤ length (st .paths)
   pub bytes : room st ≤ length (st .bytes)
-
--- refusal 1 is not the answer
-abbrev pub Passes : Store → Type 0
-Passes st = Long st × Lawful (cut st)
 
 -- what slices of words, times and bytes hold, whatever they hold
 pub record Sized (st : Store) : Type 0 where
@@ -128,3 +125,11 @@ pub record Sized (st : Store) : Type 0 where
   pub heads : (i : ℕ) → getD (st .heads) i 0 < 2 ^ 64
   pub times : (i : ℕ) → T (timeOk (getD (st .times) i (pos 0)))
   pub bytes : T (bytesOk (st .bytes))
+
+-- the slices keep the rules
+abbrev pub Keeps : Store → Type 0
+Keeps st = Long st × Lawful (core st)
+
+-- refusal 1 is not the answer: the slices keep the rules, and hold what slices hold
+abbrev pub Passes : Store → Type 0
+Passes st = Long st × Lawful (core st) × Sized (core st)

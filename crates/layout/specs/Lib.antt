@@ -1,6 +1,11 @@
+pub mod Numbers
 pub mod Fields
 pub mod Rows
 pub mod Slots
 pub mod Store
 pub mod Lawful
 pub mod Alike
+pub mod Lent
+pub mod Parts
+pub mod Answers
+pub mod Runs

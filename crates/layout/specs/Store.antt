@@ -9,7 +9,8 @@ use lib.ListN.{length, take, drop, getD}
 use Rattle.text.specs.Utf8.{Bytes}
 use Rattle.path.specs.Path.{names}
 use Rattle.model.specs.Tree.{Meta, Node, dir, file, link, Files, Open, keepIf}
-use Rattle.model.specs.Calls.{State}
+use Rattle.model.specs.Calls.States.{State}
+use Rattle.layout.specs.Numbers.{fileNumbers, wordCount, mostAt, roomAt, countAt, maskAt, hereAt, holderAt, positionAt, keptAt, extentAt, cellBytes, pathsBytes}
 use Rattle.layout.specs.Fields.{kindOf, modeOf}
 use Rattle.layout.specs.Rows.{Row, rows, treeFrom}
 use Rattle.layout.specs.Slots.{contents}
@@ -30,53 +31,53 @@ lent words records heads times paths bytes = record { words = words; records = r
 
 -- ---- the state's words
 
--- word 0: the entry limit
+-- the entry limit
 abbrev pub most : Store → ℕ
-most st = getD (st .words) 0 0
+most st = getD (st .words) mostAt 0
 
--- word 1: the byte limit
+-- the byte limit
 abbrev pub room : Store → ℕ
-room st = getD (st .words) 1 0
+room st = getD (st .words) roomAt 0
 
--- word 2: the number of entries
+-- the number of entries
 abbrev pub count : Store → ℕ
-count st = getD (st .words) 2 0
+count st = getD (st .words) countAt 0
 
--- word 3: the umask
+-- the umask
 abbrev pub mask : Store → ℕ
-mask st = getD (st .words) 3 0
+mask st = getD (st .words) maskAt 0
 
--- word 4: the length of the current directory's path
+-- the length of the current directory's path
 abbrev pub hereLength : Store → ℕ
-hereLength st = getD (st .words) 4 0
+hereLength st = getD (st .words) hereAt 0
 
--- words 5, 8, .. of the file numbers 0, 1, ..: 0 where the number is closed, else one more than the slot of its file
+-- of a file number: 0 where it is closed, else one more than the slot of its file
 abbrev pub holder : Store → ℕ → ℕ
-holder st n = getD (st .words) (5 + 3 * n) 0
+holder st n = getD (st .words) (holderAt n) 0
 
--- words 6, 9, ..: the position
+-- its position
 abbrev pub position : Store → ℕ → ℕ
-position st n = getD (st .words) (6 + 3 * n) 0
+position st n = getD (st .words) (positionAt n) 0
 
--- words 7, 10, ..: the length of the path kept at open
+-- the length of the path kept at open
 abbrev pub keptLength : Store → ℕ → ℕ
-keptLength st n = getD (st .words) (7 + 3 * n) 0
+keptLength st n = getD (st .words) (keptAt n) 0
 
--- word 101: the number of slots that the store has so far; every slot in use is below it
+-- the number of slots that the store has so far; every slot in use is below it
 abbrev pub extent : Store → ℕ
-extent st = getD (st .words) 101 0
+extent st = getD (st .words) extentAt 0
 
 -- ---- the cells of the kept paths
 
--- a cell has 1,024 bytes, of which some are used: cell 0 is the current directory's, cell n + 1 the file number n's
+-- the bytes of a cell that are used: cell 0 is the current directory's, cell n + 1 the file number n's
 abbrev pub cell : Store → ℕ → ℕ → Bytes
-cell st i n = take n (drop (1024 * i) (st .paths))
+cell st i n = take n (drop (cellBytes * i) (st .paths))
 
 -- ---- records and slots
 
--- "Room for 32 removed files beyond the entry limit"
+-- room for 32 removed files beyond the entry limit
 abbrev pub slotsFor : ℕ → ℕ
-slotsFor m = m + 32
+slotsFor m = m + fileNumbers
 
 -- the words of the entries
 abbrev pub live : Store → List ℕ
@@ -123,16 +124,16 @@ opensFrom st (suc n) k =
 -- the state of a store whose slices are as long as the limits and the extent ask
 abbrev pub state : Store → State
 state st =
-    record { tree = treeFrom (nodeAt st) [] (rowsOf st); files = filesFrom st (length (st .heads)) 0; opens = opensFrom st 32 0; here = names (cell st 0 (hereLength st)); mask = mask st; most = most st; room = room st }
+    record { tree = treeFrom (nodeAt st) [] (rowsOf st); files = filesFrom st (length (st .heads)) 0; opens = opensFrom st fileNumbers 0; here = names (cell st 0 (hereLength st)); mask = mask st; most = most st; room = room st }
 
 -- ---- slices that are longer
 
 -- as much of each slice as the limits ask, and of the slots' words as many as there are slots so far
-abbrev pub cut : Store → Store
-cut st =
-    record { words = take 102 (st .words); records = take (most st) (st .records); heads = take (extent st) (st .heads); times = take (4 * slotsFor (most st)) (st .times); paths = take 33792 (st .paths); bytes = take (room st) (st .bytes) }
+abbrev pub core : Store → Store
+core st =
+    record { words = take wordCount (st .words); records = take (most st) (st .records); heads = take (extent st) (st .heads); times = take (4 * slotsFor (most st)) (st .times); paths = take pathsBytes (st .paths); bytes = take (room st) (st .bytes) }
 
 -- what stands behind that, by the limits: nothing reads it or writes it
 abbrev pub spare : ℕ → ℕ → Store → Store
 spare m b st =
-    record { words = drop 102 (st .words); records = drop m (st .records); heads = drop (slotsFor m) (st .heads); times = drop (4 * slotsFor m) (st .times); paths = drop 33792 (st .paths); bytes = drop b (st .bytes) }
+    record { words = drop wordCount (st .words); records = drop m (st .records); heads = drop (slotsFor m) (st .heads); times = drop (4 * slotsFor m) (st .times); paths = drop pathsBytes (st .paths); bytes = drop b (st .bytes) }

@@ -9,7 +9,7 @@ use native.Mathlib.Omega.{arith}
 use lib.Dec.{T}
 use Rattle.path.specs.Path.{Name, same}
 use Rattle.path.proofs.Laws.{same-equal, same-refl, and-left, and-right, and-both}
-use Rattle.model.specs.Tree.{Path, Node, Entries, samePath, orElse, look, behindBy, behind, keepIf, less, put, outside, cut, inside, under, graft}
+use Rattle.model.specs.Tree.{Path, Node, Entries, samePath, orElse, look, behindBy, behind, keepIf, less, put, unlessBehind, cut, ifBehind, under, graft}
 use Rattle.model.specs.Rules.{Once, newPath}
 
 -- ---- deciding
@@ -137,7 +137,7 @@ unfolding cut look
 cut-in p q r [] b = refl
 cut-in p q r (e ∷ t) b = go (behind p (e .0)) refl (cut-in p q r t b)
   where
-    go : (o : Option Path) → behind p (e .0) ≡ o → look (cut p t) q ≡ none → look (outside o e (cut p t)) q ≡ none
+    go : (o : Option Path) → behind p (e .0) ≡ o → look (cut p t) q ≡ none → look (unlessBehind o e (cut p t)) q ≡ none
     go none h ih = look-past e (cut p t) q (λ k. clash (behind p (e .0)) r h (ap (behind p) k ∙ b)) ∙ ih
     go (some s) h ih = ih
 
@@ -146,7 +146,7 @@ unfolding cut look
 cut-out p q [] b = refl
 cut-out p q (e ∷ t) b = go (behind p (e .0)) refl (cut-out p q t b)
   where
-    go : (o : Option Path) → behind p (e .0) ≡ o → look (cut p t) q ≡ look t q → look (outside o e (cut p t)) q ≡ look (e ∷ t) q
+    go : (o : Option Path) → behind p (e .0) ≡ o → look (cut p t) q ≡ look t q → look (unlessBehind o e (cut p t)) q ≡ look (e ∷ t) q
     go none h ih = look-cons e (cut p t) t q ih
     go (some s) h ih = ih ∙ sym (look-past e t q (λ k. clash (behind p q) s b (ap (behind p) (sym k) ∙ h)))
 
@@ -155,7 +155,7 @@ unfolding under look
 under-look p r [] = refl
 under-look p r (e ∷ t) = go (behind p (e .0)) refl (under-look p r t)
   where
-    go : (o : Option Path) → behind p (e .0) ≡ o → look (under p t) r ≡ look t (p ++ r) → look (inside o (e .1) (under p t)) r ≡ look (e ∷ t) (p ++ r)
+    go : (o : Option Path) → behind p (e .0) ≡ o → look (under p t) r ≡ look t (p ++ r) → look (ifBehind o (e .1) (under p t)) r ≡ look (e ∷ t) (p ++ r)
     go none h ih = ih ∙ sym (look-past e t (p ++ r) (λ k. clash (behind p (e .0)) r h (ap (behind p) k ∙ behind-self p r)))
     go (some s) h ih = two (path-dec s r)
       where
@@ -230,7 +230,7 @@ unfolding cut
 apart-cut p [] a = tt
 apart-cut p (e ∷ t) a = go (behind p (e .0)) refl (apart-cut p t (a .1))
   where
-    go : (o : Option Path) → behind p (e .0) ≡ o → Apart (cut p t) → Apart (outside o e (cut p t))
+    go : (o : Option Path) → behind p (e .0) ≡ o → Apart (cut p t) → Apart (unlessBehind o e (cut p t))
     go none b ih = (cut-out p (e .0) t b ∙ a .0, ih)
     go (some r) b ih = ih
 
@@ -239,7 +239,7 @@ unfolding under
 apart-under p [] a = tt
 apart-under p (e ∷ t) a = go (behind p (e .0)) refl (apart-under p t (a .1))
   where
-    go : (o : Option Path) → behind p (e .0) ≡ o → Apart (under p t) → Apart (inside o (e .1) (under p t))
+    go : (o : Option Path) → behind p (e .0) ≡ o → Apart (under p t) → Apart (ifBehind o (e .1) (under p t))
     go none b ih = ih
     go (some r) b ih = (under-look p r t ∙ ap (look t) (sym (behind-is p (e .0) r b)) ∙ a .0, ih)
 

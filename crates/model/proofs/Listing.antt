@@ -7,13 +7,13 @@ use mathlib.Core.Path.{_≡_, refl, sym, _∙_}
 use lib.Dec.{T}
 use Rattle.text.specs.Utf8.{Bytes}
 use Rattle.path.specs.Path.{Name}
-use Rattle.model.specs.Tree.{Path, under, before, placeBy, place, inOrder}
+use Rattle.model.specs.Tree.{Path, under, before, insertBy, insert, inOrder}
 use Rattle.model.specs.Prog.{Stat, list?, answer, children, listing}
 use Rattle.model.specs.Calls.{State, worldOf}
 use Rattle.model.specs.Rules.{Obeys}
 use Rattle.model.proofs.Entries.{clash, of-true, apart-under}
 use Rattle.model.proofs.Ordering.{one-way, named, named-here, named-past, Names}
-use Rattle.model.proofs.Asking.{children-names, order-named}
+use Rattle.model.proofs.Demand.Asking.{children-names, order-named}
 
 -- each name is before the next one
 abbrev pub Rising : {A : Type 0} → List (Name × A) → Type 0
@@ -36,26 +36,26 @@ module _ {A : Type 0} where
   rising-tail f (g ∷ l) h = h .1
 
   -- a name placed behind one that is before it keeps them rising
-  rising-behind : (f e : Name × A) (l : List (Name × A)) → T (before (f .0) (e .0)) → Rising (f ∷ l) → Rising (place e l)
-      → Rising (f ∷ place e l)
-  unfolding place
+  rising-behind : (f e : Name × A) (l : List (Name × A)) → T (before (f .0) (e .0)) → Rising (f ∷ l) → Rising (insert e l)
+      → Rising (f ∷ insert e l)
+  unfolding insert
   rising-behind f e [] t h r = (t, tt)
   rising-behind f e (g ∷ l) t h r = go (before (e .0) (g .0)) r
     where
-      go : (b : Bool) → Rising (placeBy b e g l (place e l)) → Rising (f ∷ placeBy b e g l (place e l))
+      go : (b : Bool) → Rising (insertBy b e g l (insert e l)) → Rising (f ∷ insertBy b e g l (insert e l))
       go true r = (t, r)
       go false r = (h .0, r)
 
   -- a new name put in its place keeps them rising
-  rising-place : (e : Name × A) (l : List (Name × A)) → named l (e .0) ≡ none → Rising l → Rising (place e l)
-  unfolding place
+  rising-place : (e : Name × A) (l : List (Name × A)) → named l (e .0) ≡ none → Rising l → Rising (insert e l)
+  unfolding insert
   rising-place e [] n h = tt
   rising-place e (f ∷ l) n h = go (before (e .0) (f .0)) refl (rising-place e l (sym (named-past f l (e .0) other) ∙ n) (rising-tail f l h))
     where
       other : f .0 ≡ e .0 → ⊥
       other d = clash (named (f ∷ l) (e .0)) (f .1) n (named-here f l (e .0) d)
 
-      go : (b : Bool) → before (e .0) (f .0) ≡ b → Rising (place e l) → Rising (placeBy b e f l (place e l))
+      go : (b : Bool) → before (e .0) (f .0) ≡ b → Rising (insert e l) → Rising (insertBy b e f l (insert e l))
       go true k ih = (of-true k, h)
       go false k ih = rising-behind f e l (other-way (e .0) (f .0) k other) h ih
 
@@ -69,5 +69,5 @@ rising-order (e ∷ l) h = rising-place e (inOrder l) (order-named l (h .1) (e .
 pub rises : (s : State) (p : Path) → Obeys s → Rising (answer (list? p) (worldOf s))
 unfolding answer listing
 rises s p o =
-    rising-order (children (s .files) (under p (s .tree)))
-    (children-names (s .files) (under p (s .tree)) (apart-under p (s .tree) (o .paths)))
+    rising-order (children (worldOf s) (under p (s .tree)))
+    (children-names (worldOf s) (under p (s .tree)) (apart-under p (s .tree) (o .paths)))

@@ -11,7 +11,7 @@ use lib.Dec.{ltb}
 use borrow.Author.Tests.{lt-ltb, le-ltb, eq-eqb, ne-eqb, ltb-true, ltb-false}
 use Rattle.text.specs.Utf8.{Bytes}
 use Rattle.path.specs.Path.{Name}
-use Rattle.model.specs.Tree.{before, placeBy, place, inOrder}
+use Rattle.model.specs.Tree.{before, insertBy, insert, inOrder}
 use Rattle.model.proofs.Entries.{clash, some-inj, name-dec}
 
 -- ---- the order of names
@@ -88,18 +88,18 @@ later p q r h k = go (before q p) refl
 -- ---- one order of a list
 
 module _ {A : Type 0} where
-  flip : (x y : Bool) (a b : Name × A) (l : List (Name × A)) → x ≡ not y → placeBy x a b l (a ∷ l) ≡ placeBy y b a l (b ∷ l)
+  flip : (x y : Bool) (a b : Name × A) (l : List (Name × A)) → x ≡ not y → insertBy x a b l (a ∷ l) ≡ insertBy y b a l (b ∷ l)
   flip x true a b l h = rw h
   flip x false a b l h = rw h
 
   -- the place of two does not depend on which comes first
-  swap : (a b : Name × A) (l : List (Name × A)) → (a .0 ≡ b .0 → ⊥) → place a (place b l) ≡ place b (place a l)
-  unfolding place
+  swap : (a b : Name × A) (l : List (Name × A)) → (a .0 ≡ b .0 → ⊥) → insert a (insert b l) ≡ insert b (insert a l)
+  unfolding insert
   swap a b [] n = flip (before (a .0) (b .0)) (before (b .0) (a .0)) a b [] (one-way (a .0) (b .0) n)
   swap a b (f ∷ l) n = go (before (a .0) (f .0)) (before (b .0) (f .0)) refl refl (swap a b l n)
     where
-      go : (x y : Bool) → before (a .0) (f .0) ≡ x → before (b .0) (f .0) ≡ y → place a (place b l) ≡ place b (place a l)
-          → place a (place b (f ∷ l)) ≡ place b (place a (f ∷ l))
+      go : (x y : Bool) → before (a .0) (f .0) ≡ x → before (b .0) (f .0) ≡ y → insert a (insert b l) ≡ insert b (insert a l)
+          → insert a (insert b (f ∷ l)) ≡ insert b (insert a (f ∷ l))
       go true true h k ih = simp (h, k) (flip (before (a .0) (b .0)) (before (b .0) (a .0)) a b (f ∷ l) (one-way (a .0) (b .0) n))
       go true false h k ih = simp (h, k, later (a .0) (b .0) (f .0) h k)
       go false true h k ih = simp (h, k, later (b .0) (a .0) (f .0) k h)
@@ -184,14 +184,14 @@ module _ {A : Type 0} where
       go (no k) ih z = ap (_∷_ e) (ih z)
 
   -- one may be taken first
-  first : (x : Name) (a : A) (l : List (Name × A)) → Names l → named l x ≡ some a → inOrder l ≡ place (x, a) (inOrder (without x l))
+  first : (x : Name) (a : A) (l : List (Name × A)) → Names l → named l x ≡ some a → inOrder l ≡ insert (x, a) (inOrder (without x l))
   unfolding inOrder without named
   first x a [] h e = clash none a refl e
   first x a (f ∷ l) h e = go (name-dec (f .0) x) (first x a l (h .1)) e
     where
-      go : (d : Dec (f .0 ≡ x)) → (named l x ≡ some a → inOrder l ≡ place (x, a) (inOrder (without x l))) → byName d (f .1) (named l x) ≡ some a
-          → place f (inOrder l) ≡ place (x, a) (inOrder (dropBy d f (without x l)))
-      go (yes k) ih z = rw (without-none x l (ap (named l) (sym k) ∙ h .0)) (ap (λ (y : Name × A). place y (inOrder l)) (λ i. (k i, some-inj z i)))
+      go : (d : Dec (f .0 ≡ x)) → (named l x ≡ some a → inOrder l ≡ insert (x, a) (inOrder (without x l))) → byName d (f .1) (named l x) ≡ some a
+          → insert f (inOrder l) ≡ insert (x, a) (inOrder (dropBy d f (without x l)))
+      go (yes k) ih z = rw (without-none x l (ap (named l) (sym k) ∙ h .0)) (ap (λ (y : Name × A). insert y (inOrder l)) (λ i. (k i, some-inj z i)))
       go (no k) ih z = rw (ih z) (swap f (x, a) (inOrder (without x l)) k)
 
   -- lists that have the same under each name have one order
@@ -200,7 +200,7 @@ module _ {A : Type 0} where
   one-order [] [] a b h = refl
   one-order [] (e ∷ m) a b h = clash (named (e ∷ m) (e .0)) (e .1) (sym (h (e .0))) (named-here e m (e .0) refl)
   one-order (e ∷ l) m a b h =
-      ap (place e) (one-order l (without (e .0) m) (a .1) (without-names (e .0) m b) rest)
+      ap (insert e) (one-order l (without (e .0) m) (a .1) (without-names (e .0) m b) rest)
       ∙ sym (first (e .0) (e .1) m b (sym (h (e .0)) ∙ named-here e l (e .0) refl))
     where
       rest : (x : Name) → named l x ≡ named (without (e .0) m) x

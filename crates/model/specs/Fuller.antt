@@ -9,8 +9,9 @@ use Prim.Native.Nat.{ℕ, zero, suc, _-_, _≤_}
 use lib.Dec.{eqb}
 use Rattle.text.specs.Utf8.{Bytes}
 use Rattle.path.specs.Path.{Name}
-use Rattle.model.specs.Tree.{Path, Meta, File, Node, dir, file, link, Files, Open, look, fileOf, openOf, links}
-use Rattle.model.specs.Prog.{World, Stat, Position, Ask, kind?, stat?, bytes?, target?, list?, bare?, open?, held?, answer, onSome, listing, apply, Prog, ret, stop, ask, edit}
+use Rattle.model.specs.Refusals.{noEntries, noBytes}
+use Rattle.model.specs.Tree.{Path, Meta, File, Node, dir, file, link, Files, Open, look, fileOf, openOf, linksIn}
+use Rattle.model.specs.Prog.{World, Stat, Position, Ask, kind?, stat?, bytes?, target?, list?, bare?, open?, held?, here?, mask?, answer, onSome, listing, apply, Prog, ret, stop, ask, edit}
 use Rattle.model.specs.Operations.{isSome}
 use Rattle.model.specs.Calls.{State, Call, entriesUsed, bytesUsed, isNamed, givenTo, screen, program, worldOf, Result, accepted, refusal, perform}
 
@@ -23,14 +24,14 @@ pub data Shown : Type 0 where
   shownLink : Meta → Bytes → Shown
 
 -- a node as it is seen: its file's number is not
-unfoldable pub shownNode : Files → Node → Option Shown
-shownNode fs (dir m) = some (shownDir m)
-shownNode fs (file i) = onSome (fileOf fs i) (λ f. some (shownFile (f .meta) (f .bytes)))
-shownNode fs (link m s) = some (shownLink m s)
+unfoldable pub shownNode : State → Node → Option Shown
+shownNode s (dir m) = some (shownDir m)
+shownNode s (file i) = onSome (fileOf (s .files) i) (λ f. some (shownFile (f .meta) (f .bytes)))
+shownNode s (link m g) = some (shownLink m g)
 
 -- what stands at a path, as it is seen
 unfoldable pub shown : State → Path → Option Shown
-shown s p = onSome (look (s .tree) p) (shownNode (s .files))
+shown s p = onSome (look (s .tree) p) (shownNode s)
 
 -- "each entry of the first, the root too, stands there at the same path, alike in kind, metadata, bytes and target"
 abbrev pub HasEverything : State → State → Type 0
@@ -116,6 +117,8 @@ exceptsAsk (list? p) w v = hasMore w v p
 exceptsAsk (bare? p) w v = hasMore w v p
 exceptsAsk (open? n) w v = false
 exceptsAsk (held? n) w v = false
+exceptsAsk here? w v = false
+exceptsAsk mask? w v = false
 
 -- the questions of a program, as the first run goes, on both trees as they then are: whether one of them is left out
 unfoldable pub excepts : {A : Type 0} → Prog A → World → World → Bool
@@ -127,19 +130,19 @@ excepts (edit e p) w v = excepts p (apply e w) (apply e v)
 -- "Refused for space is 15 or 16"
 unfoldable pub forSpace : Result → Bool
 forSpace (accepted r) = false
-forSpace (refusal n) = eqb n 15 || eqb n 16
+forSpace (refusal n) = eqb n noEntries || eqb n noBytes
 
 -- a call that is not refused before its program
 abbrev pub passes : ℕ → Bool → Bool
 passes zero b = b
 passes (suc n) b = false
 
--- a call that is left out: what is refused before its program asks nothing. The bound on last links is the second tree's; the
--- first run's is smaller, and a longer chain there asks nothing new.
+-- a call that is left out: its program as the first run has it asks such a question, or it is refused for space in the first run.
+-- What is refused before its program asks nothing
 unfoldable pub excepted : Call → State → State → Bool
 excepted c s u =
-    passes (screen (givenTo c) (s .opens))
-    (excepts (program (links (u .tree)) (s .here) (s .mask) c) (worldOf s) (worldOf u) || forSpace (perform c s .result))
+    passes (screen (c .work) (givenTo (c .op)) (s .opens))
+    (excepts (program (linksIn (s .tree)) (c .op)) (worldOf s) (worldOf u) || forSpace (perform c s .result))
 
 -- no call of the list is left out
 unfoldable pub quiet : List Call → State → State → Bool

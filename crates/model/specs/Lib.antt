@@ -1,3 +1,4 @@
+pub mod Refusals
 pub mod Tree
 pub mod Prog
 pub mod Lookup
@@ -7,3 +8,7 @@ pub mod Calls
 pub mod Rules
 pub mod Fuller
 pub mod Passable
+pub mod Shaped
+pub mod Alike
+pub mod Space
+pub mod Buffers

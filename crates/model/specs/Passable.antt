@@ -4,77 +4,75 @@ use mathlib.Core.List.{List, [], _∷_}
 use Prim.Native.Nat.{ℕ, _<_, _^_}
 use lib.Dec.{T}
 use Rattle.model.specs.Tree.{Time}
-use Rattle.model.specs.Calls
-use Rattle.model.specs.Calls.{Call, Work}
+use Rattle.model.specs.Calls as Calls
+use Rattle.model.specs.Calls.{Op, Work, Call}
 use Rattle.model.specs.Rules.{timeOk, bytesOk}
 
 -- an unsigned 32-bit number: a mode, an umask, flags, a file number, the origin of a seek
-abbrev pub Word : ℕ → Type 0
-Word n = n < 2 ^ 32
+abbrev pub Unsigned32 : ℕ → Type 0
+Unsigned32 n = n < 2 ^ 32
 
 -- an unsigned 64-bit number: the length of a lent buffer, a size, an offset
-abbrev pub Long : ℕ → Type 0
-Long n = n < 2 ^ 64
+abbrev pub Unsigned64 : ℕ → Type 0
+Unsigned64 n = n < 2 ^ 64
 
 -- a signed 64-bit number: a time
-abbrev pub Clock : Time → Type 0
-Clock t = T (timeOk t)
+abbrev pub Signed64 : Time → Type 0
+Signed64 t = T (timeOk t)
 
--- the lengths of the two working buffers
-abbrev pub WorkFits : Work → Type 0
-WorkFits w = Long (w .first) × Long (w .second)
-
--- the numbers of a call, in the order of its parts
-abbrev pub Passable : Call → Type 0
+-- the numbers of an operation, in the order of its parts; texts are tested by the call
+abbrev pub OpFits : Op → Type 0
 -- the answer's lent bytes
-Passable (Calls.canonicalizeCall w s k) = WorkFits w × Long k
--- no more than the working buffers
-Passable (Calls.setCurrentDirCall w s) = WorkFits w
+OpFits (Calls.canonicalize s k) = Unsigned64 k
+OpFits (Calls.setCurrentDir s) = Unit {0}
 -- the umask
-Passable (Calls.setUmaskCall m) = Word m
+OpFits (Calls.setUmask m) = Unsigned32 m
 -- the time of what is made
-Passable (Calls.createDirCall w s t) = WorkFits w × Clock t
+OpFits (Calls.createDir s t) = Signed64 t
 -- the number, the flags, the mode, the time
-Passable (Calls.openCall w n s f m t) = WorkFits w × Word n × Word f × Word m × Clock t
+OpFits (Calls.openFile n s f m t) = Unsigned32 n × Unsigned32 f × Unsigned32 m × Signed64 t
 -- the lent bytes
-Passable (Calls.readCall w s k) = WorkFits w × Long k
--- the data and the time of what is written
-Passable (Calls.writeCall w s d t) = WorkFits w × T (bytesOk d) × Clock t
+OpFits (Calls.readFile s k) = Unsigned64 k
+-- the contents and the time of what is written
+OpFits (Calls.writeFile s d t) = T (bytesOk d) × Signed64 t
 -- the time of what is copied or made
-Passable (Calls.copyCall w s d t) = WorkFits w × Clock t
-Passable (Calls.hardLinkCall w s d t) = WorkFits w × Clock t
-Passable (Calls.linkCall w g s t) = WorkFits w × Clock t
--- no more than the working buffers
-Passable (Calls.removeFileCall w s) = WorkFits w
-Passable (Calls.removeDirCall w s) = WorkFits w
-Passable (Calls.removeTreeCall w s) = WorkFits w
+OpFits (Calls.copyFile s d t) = Signed64 t
+OpFits (Calls.hardLink s d t) = Signed64 t
+OpFits (Calls.linkFile g s t) = Signed64 t
+OpFits (Calls.removeFile s) = Unit {0}
+OpFits (Calls.removeDir s) = Unit {0}
+OpFits (Calls.removeTree s) = Unit {0}
 -- the time of the directories that are made
-Passable (Calls.renameCall w s d t) = WorkFits w × Clock t
+OpFits (Calls.rename s d t) = Signed64 t
 -- the lent rows
-Passable (Calls.metadataCall w s k) = WorkFits w × Long k
-Passable (Calls.symlinkMetadataCall w s k) = WorkFits w × Long k
+OpFits (Calls.metadata s r) = Unsigned64 r
+OpFits (Calls.symlinkMetadata s r) = Unsigned64 r
 -- the lent bytes
-Passable (Calls.readLinkCall w s k) = WorkFits w × Long k
+OpFits (Calls.readLink s k) = Unsigned64 k
 -- the mode
-Passable (Calls.setPermissionsCall w s m) = WorkFits w × Word m
+OpFits (Calls.setPermissions s m) = Unsigned32 m
 -- both times
-Passable (Calls.setTimesCall w s a m) = WorkFits w × Clock a × Clock m
+OpFits (Calls.setTimes s a m) = Signed64 a × Signed64 m
 -- the lent bytes and rows
-Passable (Calls.listCall w s k r) = WorkFits w × Long k × Long r
+OpFits (Calls.list s k r) = Unsigned64 k × Unsigned64 r
 -- the number
-Passable (Calls.closeCall n) = Word n
+OpFits (Calls.closeNumber n) = Unsigned32 n
 -- the number and the lent bytes
-Passable (Calls.readNumberCall n k) = Word n × Long k
+OpFits (Calls.readNumber n k) = Unsigned32 n × Unsigned64 k
 -- the number, the origin and the offset
-Passable (Calls.seekCall n o k) = Word n × Word o × Long k
+OpFits (Calls.seekNumber n o k) = Unsigned32 n × Unsigned32 o × Unsigned64 k
 -- the number and the size
-Passable (Calls.setLengthCall n k) = Word n × Long k
+OpFits (Calls.setLength n k) = Unsigned32 n × Unsigned64 k
 -- the number and the mode
-Passable (Calls.setModeCall n m) = Word n × Word m
+OpFits (Calls.setModeNumber n m) = Unsigned32 n × Unsigned32 m
 -- the number, the flags and both times, given or not
-Passable (Calls.setTimesNumberCall n f a m) = Word n × Word f × Clock a × Clock m
+OpFits (Calls.setTimesNumber n f a m) = Unsigned32 n × Unsigned32 f × Signed64 a × Signed64 m
 -- the number and the lent rows
-Passable (Calls.metadataNumberCall w n k) = WorkFits w × Word n × Long k
+OpFits (Calls.metadataNumber n r) = Unsigned32 n × Unsigned64 r
+
+-- a call that C can make
+abbrev pub Passable : Call → Type 0
+Passable c = Unsigned64 (c .work .first) × Unsigned64 (c .work .second) × OpFits (c .op)
 
 -- every call of a job
 abbrev pub PassableJob : List Call → Type 0

@@ -43,7 +43,7 @@ pub record Position : Type 0 where
 -- ---- questions
 
 -- what a call may ask: kind, metadata, bytes or target at a path; the names of a directory, or whether it has none; position and
--- bytes of a number
+-- bytes of a number; current directory; umask
 pub data Ask : Type 0 where
   kind? : Path → Ask
   stat? : Path → Ask
@@ -53,6 +53,8 @@ pub data Ask : Type 0 where
   bare? : Path → Ask
   open? : ℕ → Ask
   held? : ℕ → Ask
+  here? : Ask
+  mask? : Ask
 
 -- what it is told; of what is not there, nothing
 abbrev pub Answer : Ask → Type 0
@@ -64,6 +66,8 @@ Answer (list? p) = List (Name × Stat)
 Answer (bare? p) = Bool
 Answer (open? n) = Option Position
 Answer (held? n) = Option Bytes
+Answer here? = Path
+Answer mask? = ℕ
 
 -- of what is there
 abbrev pub onSome : {A B : Type 0} → Option A → (A → Option B) → Option B
@@ -71,22 +75,22 @@ onSome none f = none
 onSome (some a) f = f a
 
 -- the kind of a node
-unfoldable pub kindOf : Node → Kind
-kindOf (dir m) = aDir
-kindOf (file i) = aFile
-kindOf (link m s) = aLink
+unfoldable pub nodeKind : Node → Kind
+nodeKind (dir m) = aDir
+nodeKind (file i) = aFile
+nodeKind (link m s) = aLink
 
--- "a link's length is 0", a directory's too
-unfoldable pub statOf : Files → Node → Option Stat
-statOf fs (dir m) = some (record { kind = aDir; size = 0; meta = m })
-statOf fs (file i) = onSome (fileOf fs i) (λ f. some (record { kind = aFile; size = length (f .bytes); meta = f .meta }))
-statOf fs (link m s) = some (record { kind = aLink; size = 0; meta = m })
+-- a link's length is 0, a directory's too
+unfoldable pub statOf : World → Node → Option Stat
+statOf w (dir m) = some (record { kind = aDir; size = 0; meta = m })
+statOf w (file i) = onSome (fileOf (w .files) i) (λ f. some (record { kind = aFile; size = length (f .bytes); meta = f .meta }))
+statOf w (link m s) = some (record { kind = aLink; size = 0; meta = m })
 
 -- a file's bytes
-unfoldable pub bytesOf : Files → Node → Option Bytes
-bytesOf fs (dir m) = none
-bytesOf fs (file i) = onSome (fileOf fs i) (λ f. some (f .bytes))
-bytesOf fs (link m s) = none
+unfoldable pub bytesOf : World → Node → Option Bytes
+bytesOf w (dir m) = none
+bytesOf w (file i) = onSome (fileOf (w .files) i) (λ f. some (f .bytes))
+bytesOf w (link m s) = none
 
 -- "links have a target"
 unfoldable pub targetOf : Node → Option Bytes
@@ -102,9 +106,9 @@ child [] o l = l
 child (x ∷ y ∷ p) o l = l
 
 -- of entries by the paths behind a directory, those right below it
-unfoldable pub children : Files → Entries → List (Name × Stat)
-children fs [] = []
-children fs (e ∷ t) = child (e .0) (statOf fs (e .1)) (children fs t)
+unfoldable pub children : World → Entries → List (Name × Stat)
+children w [] = []
+children w (e ∷ t) = child (e .0) (statOf w (e .1)) (children w t)
 
 -- nothing in it
 abbrev pub isNil : {A : Type 0} → List A → Bool
@@ -113,18 +117,20 @@ isNil (a ∷ l) = false
 
 -- "names in order, with metadata"
 unfoldable pub listing : World → Path → List (Name × Stat)
-listing w p = inOrder (children (w .files) (under p (w .at)))
+listing w p = inOrder (children w (under p (w .at)))
 
 -- the answer that a world gives
 unfoldable pub answer : (q : Ask) → World → Answer q
-answer (kind? p) w = onSome (look (w .at) p) (λ n. some (kindOf n))
-answer (stat? p) w = onSome (look (w .at) p) (statOf (w .files))
-answer (bytes? p) w = onSome (look (w .at) p) (bytesOf (w .files))
+answer (kind? p) w = onSome (look (w .at) p) (λ n. some (nodeKind n))
+answer (stat? p) w = onSome (look (w .at) p) (statOf w)
+answer (bytes? p) w = onSome (look (w .at) p) (bytesOf w)
 answer (target? p) w = onSome (look (w .at) p) targetOf
 answer (list? p) w = listing w p
 answer (bare? p) w = isNil (listing w p)
 answer (open? n) w = onSome (openOf (w .opens) n) (λ o. some (record { pos = o .pos; kept = o .kept }))
 answer (held? n) w = onSome (openOf (w .opens) n) (λ o. onSome (fileOf (w .files) (o .id)) (λ f. some (f .bytes)))
+answer here? w = w .here
+answer mask? w = w .mask
 
 -- ---- edits
 
@@ -170,11 +176,11 @@ closeNum n [] = []
 closeNum n (o ∷ os) = keepIf (not (eqb (o .num) n)) o (closeNum n os)
 
 -- the number stands on the file at the path from now on
-abbrev pub openAt : World → ℕ → Path → ℕ → Option Node → World
-openAt w n p k none = w
-openAt w n p k (some (dir m)) = w
-openAt w n p k (some (file i)) = withOpens w ((record { num = n; id = i; pos = k; kept = p }) ∷ closeNum n (w .opens))
-openAt w n p k (some (link m s)) = w
+abbrev pub openedAt : World → ℕ → Path → ℕ → Option Node → World
+openedAt w n p k none = w
+openedAt w n p k (some (dir m)) = w
+openedAt w n p k (some (file i)) = withOpens w ((record { num = n; id = i; pos = k; kept = p }) ∷ closeNum n (w .opens))
+openedAt w n p k (some (link m s)) = w
 
 -- a number at another position
 abbrev pub moveBy : Bool → ℕ → Open → Open
@@ -202,7 +208,7 @@ apply (take p) w =
     record { at = cut p (w .at); hand = under p (w .at); files = w .files; opens = w .opens; here = w .here; mask = w .mask }
 apply (give p) w =
     record { at = graft p (w .hand) ++ cut p (w .at); hand = []; files = w .files; opens = w .opens; here = w .here; mask = w .mask }
-apply (opens n p k) w = openAt w n p k (look (w .at) p)
+apply (opens n p k) w = openedAt w n p k (look (w .at) p)
 apply (close n) w = withOpens w (closeNum n (w .opens))
 apply (seek n k) w = withOpens w (seekNum n k (w .opens))
 apply (changeHeld n c) w = changeBy w c (openOf (w .opens) n)

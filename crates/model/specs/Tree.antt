@@ -109,24 +109,24 @@ unfoldable pub put : Path → Node → Entries → Entries
 put p n t = (p, n) ∷ less p t
 
 -- an entry that is not behind the path is kept
-abbrev pub outside : Option Path → Path × Node → Entries → Entries
-outside none e t = e ∷ t
-outside (some r) e t = t
+abbrev pub unlessBehind : Option Path → Path × Node → Entries → Entries
+unlessBehind none e t = e ∷ t
+unlessBehind (some r) e t = t
 
 -- without the entry of that path and all below it
 unfoldable pub cut : Path → Entries → Entries
 cut p [] = []
-cut p (e ∷ t) = outside (behind p (e .0)) e (cut p t)
+cut p (e ∷ t) = unlessBehind (behind p (e .0)) e (cut p t)
 
 -- one that is, by the names behind it
-abbrev pub inside : Option Path → Node → Entries → Entries
-inside none n t = t
-inside (some r) n t = (r, n) ∷ t
+abbrev pub ifBehind : Option Path → Node → Entries → Entries
+ifBehind none n t = t
+ifBehind (some r) n t = (r, n) ∷ t
 
 -- the entry of that path and all below it, by the paths behind it
 unfoldable pub under : Path → Entries → Entries
 under p [] = []
-under p (e ∷ t) = inside (behind p (e .0)) (e .1) (under p t)
+under p (e ∷ t) = ifBehind (behind p (e .0)) (e .1) (under p t)
 
 -- the same put behind a path
 unfoldable pub graft : Path → Entries → Entries
@@ -189,19 +189,19 @@ before (a ∷ s) [] = false
 before (a ∷ s) (b ∷ t) = ltb a b || (eqb a b && before s t)
 
 -- before the other, or behind it
-abbrev pub placeBy : {A : Type 0} → Bool → A → A → List A → List A → List A
-placeBy true a b l rest = a ∷ b ∷ l
-placeBy false a b l rest = b ∷ rest
+abbrev pub insertBy : {A : Type 0} → Bool → A → A → List A → List A → List A
+insertBy true a b l rest = a ∷ b ∷ l
+insertBy false a b l rest = b ∷ rest
 
 -- "Names in a directory rise strictly by byte order"
-unfoldable pub place : {A : Type 0} → Name × A → List (Name × A) → List (Name × A)
-place e [] = e ∷ []
-place e (f ∷ l) = placeBy (before (e .0) (f .0)) e f l (place e l)
+unfoldable pub insert : {A : Type 0} → Name × A → List (Name × A) → List (Name × A)
+insert e [] = e ∷ []
+insert e (f ∷ l) = insertBy (before (e .0) (f .0)) e f l (insert e l)
 
 -- each put in its place
 unfoldable pub inOrder : {A : Type 0} → List (Name × A) → List (Name × A)
 inOrder [] = []
-inOrder (e ∷ l) = place e (inOrder l)
+inOrder (e ∷ l) = insert e (inOrder l)
 
 -- ---- sums
 
@@ -223,13 +223,13 @@ namesAndTargets [] = 0
 namesAndTargets (e ∷ t) = nameLength (e .0) + targetLength (e .1) + namesAndTargets t
 
 -- "and contents", each file's once
-unfoldable pub contents : Files → ℕ
-contents [] = 0
-contents (f ∷ fs) = length (f .1 .bytes) + contents fs
+unfoldable pub contentsLength : Files → ℕ
+contentsLength [] = 0
+contentsLength (f ∷ fs) = length (f .1 .bytes) + contentsLength fs
 
 -- the number of links
-unfoldable pub links : Entries → ℕ
-links [] = 0
-links ((p, dir m) ∷ t) = links t
-links ((p, file i) ∷ t) = links t
-links ((p, link m s) ∷ t) = suc (links t)
+unfoldable pub linksIn : Entries → ℕ
+linksIn [] = 0
+linksIn ((p, dir m) ∷ t) = linksIn t
+linksIn ((p, file i) ∷ t) = linksIn t
+linksIn ((p, link m s) ∷ t) = suc (linksIn t)

@@ -1,14 +1,14 @@
 -- The pieces of a text: a text cut at a slash has the pieces of both sides, and a stretch without a slash is one piece.
 -- Assumes nothing.
 use mathlib.Core.Bool.{Bool, true, false}
-use mathlib.Core.List.{List, [], _∷_, _++_, cons-ne-nil}
+use mathlib.Core.List.{List, [], _∷_, _++_}
 use mathlib.Core.Path.{_≡_, refl, sym, ap, _∙_}
 use Prim.Native.Nat.{ℕ, zero, suc, _+_, _-_, _≤_, _<_}
 use native.Mathlib.Numerals.{add-one}
 use native.Mathlib.Omega.{arith}
 use lib.Dec.{eqb}
-use lib.ListN.{length, take, drop, getD, length-take, length-drop}
-use lib.Seq.{append-snoc, drop-cons, drop-drop, take-add, take-suc}
+use lib.ListN.{length, take, drop, getD, length-take, length-drop, take-append-drop}
+use lib.Seq.{append-snoc, take-all, drop-cons, drop-drop, take-add, take-suc}
 use borrow.Author.Tests.{ne-eqb, eqb-false}
 use Rattle.text.specs.Utf8.{Bytes}
 use Rattle.path.specs.Path.{Name, cut, pieces}
@@ -27,9 +27,6 @@ first (b ∷ s) = go (first s) (eqb b 47)
     go : (h : Name) × (r : List Name) × (pieces s ≡ h ∷ r) → (t : Bool) → (h : Name) × (r : List Name) × (cut t b (pieces s) ≡ h ∷ r)
     go f true = ([], pieces s, refl)
     go f false = (b ∷ f .0, f .1, ap (λ (ps : List Name). cut false b ps) (f .2))
-
-pub pieces-not-nil : (s : Bytes) → pieces s ≡ [] → ⊥
-pieces-not-nil s e = cons-ne-nil (first s .0) (first s .1) (sym (first s .2) ∙ e)
 
 cut-append : (t : Bool) (b : ℕ) (x : Bytes) (qs : List Name) → cut t b (pieces x ++ qs) ≡ cut t b (pieces x) ++ qs
 cut-append true b x qs = refl
@@ -86,6 +83,19 @@ pub take-part : (a e : ℕ) (s : Bytes) → a ≤ e → take e s ≡ take a s ++
 take-part a e s h =
     let n : e ≡ a + (e - a) = omega arith in
     ap (λ (k : ℕ). take k s) n ∙ take-add a (e - a) s
+
+-- what is taken and then dropped, dropped first
+pub drop-of-take : {A : Type 0} (m n : ℕ) (l : List A) → drop m (take n l) ≡ take (n - m) (drop m l)
+drop-of-take zero n l = let e : n ≡ n - 0 = omega arith in ap (λ (k : ℕ). take k l) e
+drop-of-take (suc m) zero l = let e : 0 ≡ 0 - suc m = omega arith in ap (λ (k : ℕ). take k (drop (suc m) l)) e
+drop-of-take (suc m) (suc n) [] = sym (take-all (suc n - suc m) [] (omega arith))
+drop-of-take (suc m) (suc n) (a ∷ l) = let e : n - m ≡ suc n - suc m = omega arith in drop-of-take m n l ∙ ap (λ (k : ℕ). take k (drop m l)) e
+
+-- the text behind a, cut at b
+pub part-behind : (s : Bytes) (a b : ℕ) → a ≤ b → drop a s ≡ part a b s ++ drop b s
+part-behind s a b h =
+    let e : a + (b - a) ≡ b = omega arith in
+    sym (take-append-drop (b - a) (drop a s)) ∙ ap (λ (t : Bytes). part a b s ++ t) (drop-drop (b - a) a s ∙ ap (λ (k : ℕ). drop k s) e)
 
 -- a part cut in two
 pub part-append : (a b e : ℕ) (s : Bytes) → a ≤ b → b ≤ e → part a e s ≡ part a b s ++ part b e s

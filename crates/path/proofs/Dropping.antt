@@ -6,7 +6,7 @@ use Prim.Native.Nat.{ℕ, zero, suc, _+_, _-_, _≤_, _<_}
 use native.Mathlib.Numerals.{add-one}
 use native.Mathlib.Omega.{arith}
 use lib.Dec.{eqb}
-use lib.ListN.{length, take, length-append}
+use lib.ListN.{length, take}
 use lib.Seq.{length-take-le}
 use mathlib.Core.Bool.{Bool, true, false}
 use borrow.Author.Tests.{eqb-true}
@@ -15,7 +15,7 @@ use Rattle.path.specs.Path.{Name, cut, pieces, names, body}
 use Rattle.path.specs.Backward.{front, part, dropN}
 use Rattle.path.proofs.Cutting.{NoSlash, first, pieces-join, pieces-no-slash}
 use Rattle.path.proofs.Every.{Every, every-keep}
-use Rattle.path.proofs.Reading.{dropLast-snoc, body-append}
+use Rattle.path.proofs.Reading.{dropLast-snoc}
 
 -- the pieces, a slash before each, are the text behind a slash
 pub body-pieces : (s : Bytes) → body (pieces s) ≡ 47 ∷ s
@@ -30,14 +30,6 @@ body-pieces (b ∷ s) = go (body-pieces s) (eqb b 47) refl
         let q : 47 ∷ (f .0 ++ body (f .1)) ≡ 47 ∷ s = sym (ap body (f .2)) ∙ ih in
         let r : f .0 ++ body (f .1) ≡ s = cc in
         ap (λ (ps : List Name). body (cut false b ps)) (f .2) ∙ ap (λ (x : Bytes). 47 ∷ (b ∷ x)) r
-
--- a text whose pieces stand in front of names
-pub body-run : (t : Bytes) (ns : List Name) → body (pieces t ++ ns) ≡ 47 ∷ (t ++ body ns)
-body-run t ns = body-append (pieces t) ns ∙ ap (λ (x : Bytes). x ++ body ns) (body-pieces t)
-
--- its length
-pub body-run-length : (t : Bytes) (ns : List Name) → length (body (pieces t ++ ns)) ≡ length t + 1 + length (body ns)
-body-run-length t ns = rw (body-run t ns) (simp length-append (omega arith))
 
 -- no name of a text holds a slash
 pub names-no-slash : (s : Bytes) → Every NoSlash (names s)

@@ -14,6 +14,15 @@ module _ (P : Name → Type 0) where
   every-append [] y h k = k
   every-append (n ∷ x) y h k = (h .0, every-append x y (h .1) k)
 
+  -- what holds of every name of both parts, and only that, holds of every name of the whole
+  pub every-first : (x y : List Name) → Every P (x ++ y) → Every P x
+  every-first [] y h = tt
+  every-first (n ∷ x) y h = (h .0, every-first x y (h .1))
+
+  pub every-second : (x y : List Name) → Every P (x ++ y) → Every P y
+  every-second [] y h = h
+  every-second (n ∷ x) y h = every-second x y (h .1)
+
   pub every-dropLast : (ns : List Name) → Every P ns → Every P (dropLast ns)
   every-dropLast [] h = tt
   every-dropLast (n ∷ []) h = tt

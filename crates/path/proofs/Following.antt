@@ -8,10 +8,10 @@ use Prim.Native.Nat.{ℕ, zero, suc, _+_, _-_, _≤_, _<_, zero-le}
 use native.Mathlib.Nat.{le-refl}
 use native.Mathlib.Numerals.{add-one}
 use native.Mathlib.Omega.{arith}
-use lib.Dec.{eqb, ltb}
+use lib.Dec.{eqb}
 use lib.ListN.{length, take, drop, getD, take-append-drop}
 use borrow.Author.Count.{below-more}
-use borrow.Author.Tests.{eq-eqb, eqb-true, eqb-false, ltb-true, ltb-false}
+use borrow.Author.Tests.{eq-eqb, eqb-true, eqb-false}
 use Rattle.text.specs.Utf8.{Bytes}
 use Rattle.path.specs.Path.{Name, cut, pieces, body}
 use Rattle.path.specs.Backward.{Sifted, kindOf, mk, siftOne, sift, sifted, front, part}
@@ -74,33 +74,21 @@ pub or-false : (a b : Bool) → a || b ≡ false → (a ≡ false) × (b ≡ fal
 or-false true b e = (e, let z : true ≡ false = e in cc)
 or-false false b e = (refl, e)
 
-module _ (d : ℕ) where
-  -- a byte and the one behind it
-  pair : (x y : ℕ) → eqb x d && (eqb y d || eqb y 46) ≡ false → x ≡ d → (y ≡ d → ⊥) × (y ≡ 46 → ⊥)
-  pair x y e q =
-      let t : eqb x d ≡ true = eq-eqb x d q in
-      let f : eqb y d || eqb y 46 ≡ false = rw t at e in
-      let w = or-false (eqb y d) (eqb y 46) f in
-      (eqb-false y d (w .0), eqb-false y 46 (w .1))
+-- a byte and the one behind it
+pair : (x y : ℕ) → eqb x 47 && (eqb y 47 || eqb y 46) ≡ false → x ≡ 47 → (y ≡ 47 → ⊥) × (y ≡ 46 → ⊥)
+pair x y e q =
+    let t : eqb x 47 ≡ true = eq-eqb x 47 q in
+    let f : eqb y 47 || eqb y 46 ≡ false = rw t at e in
+    let w = or-false (eqb y 47) (eqb y 46) f in
+    (eqb-false y 47 (w .0), eqb-false y 46 (w .1))
 
-  -- a byte more
-  pub clean-more : (s : Bytes) (a i : ℕ) (bad : Bool) → (bad ≡ false → Clean d s a i)
-      → bad || (eqb (getD s i 0) d && (eqb (getD s (i + 1) 0) d || eqb (getD s (i + 1) 0) 46)) ≡ false → Clean d s a (i + 1)
-  clean-more s a i bad w e =
-      let o = or-false bad (eqb (getD s i 0) d && (eqb (getD s (i + 1) 0) d || eqb (getD s (i + 1) 0) 46)) e in
-      below-more _ i (w (o .0)) (λ _. pair (getD s i 0) (getD s (i + 1) 0) (o .1))
-
-  -- two stretches side by side
-  pub clean-join : (s : Bytes) (a b e : ℕ) → Clean d s a b → Clean d s b e → Clean d s a e
-  clean-join s a b e x y k l h = go (ltb k b) refl
-    where
-      go : (t : Bool) → ltb k b ≡ t → getD s k 0 ≡ d → (getD s (k + 1) 0 ≡ d → ⊥) × (getD s (k + 1) 0 ≡ 46 → ⊥)
-      go true q = x k (ltb-true k b q) h
-      go false q = y k l (ltb-false k b q)
+-- a byte more
+pub clean-more : (s : Bytes) (a i : ℕ) → Clean s a i → eqb (getD s i 0) 47 && (eqb (getD s (i + 1) 0) 47 || eqb (getD s (i + 1) 0) 46) ≡ false → Clean s a (i + 1)
+clean-more s a i w e = below-more _ i w (λ _. pair (getD s i 0) (getD s (i + 1) 0) e)
 
 module _ (s : Bytes) (e : ℕ) (fits : e ≤ length s) (last : getD s (e - 1) 0 ≡ 47 → ⊥) where
   -- behind each byte of a clean part comes what may
-  clean-follows : (n a : ℕ) → a + suc n ≡ e → Clean 47 s a (e - 1) → Follows (getD s a 0) (part (suc a) e s)
+  clean-follows : (n a : ℕ) → a + suc n ≡ e → Clean s a (e - 1) → Follows (getD s a 0) (part (suc a) e s)
   unfolding Follows
   clean-follows zero a q w =
       let m : e ≡ suc a = omega arith in
@@ -112,7 +100,7 @@ module _ (s : Bytes) (e : ℕ) (fits : e ≤ length s) (last : getD s (e - 1) 0 
       rw (part-cons (suc a) e s (omega arith) fits) (rw add-one at h, clean-follows n (suc a) (omega arith) (λ k l g. w k l (omega arith)))
 
   -- a clean part that neither begins nor ends like a piece that is no name
-  pub clean-names : (a : ℕ) → a < e → (getD s a 0 ≡ 47 → ⊥) → (getD s a 0 ≡ 46 → ⊥) → Clean 47 s a (e - 1) → AllNames (part a e s)
+  pub clean-names : (a : ℕ) → a < e → (getD s a 0 ≡ 47 → ⊥) → (getD s a 0 ≡ 46 → ⊥) → Clean s a (e - 1) → AllNames (part a e s)
   unfolding Follows
   clean-names a l h d w = all-names (part a e s) (rw (part-cons a e s l fits) ((λ q. (h, d)), clean-follows (e - suc a) a (omega arith) w))
 

@@ -9,8 +9,8 @@ use lib.ListN.{length, take, drop, length-append}
 use lib.Seq.{length-take-le, take-at, drop-at, take-take}
 use borrow.Author.Tests.{le-leb, lt-leb}
 use Rattle.text.specs.Utf8.{Bytes}
-use Rattle.moves.specs.Gap.{moved}
-use Rattle.moves.proofs.Laws.{moved-split}
+use Rattle.blocks.specs.Gap.{moved}
+use Rattle.blocks.proofs.Laws.{moved-split}
 use Rattle.path.specs.Path.{Name, names, norm, normal, from, isAbsolute, absolute, body}
 use Rattle.path.specs.Backward.{sifted, dropN, Sifted, part}
 use Rattle.path.specs.Answer.{formed, written, Forms}
@@ -102,9 +102,6 @@ raw-kept path = sym (ap (λ (z : Sifted). body (z .kept)) (raw-sifted path))
 
 pub forms-one : (t out after : Bytes) (n : ℕ) → n ≡ length t → n ≤ 1024 → after ≡ take (n - length t) out ++ (t ++ drop n out) → Forms t out after (Text n)
 forms-one t out after n e h w = forms-text t out after n (omega arith) e (stored t out after n e w)
-
-pub forms-front : (t out after : Bytes) (n : ℕ) → n ≡ length t → n ≤ 1024 → after ≡ t ++ drop n out → Forms t out after (Text n)
-forms-front t out after n e h w = forms-text t out after n (omega arith) e (w ∙ ap (λ (k : ℕ). t ++ drop k out) e)
 
 -- ---- a link's target in place of the link
 

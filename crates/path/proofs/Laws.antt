@@ -4,7 +4,7 @@
 use mathlib.Core.Bool.{Bool, true, false, _&&_, cond, not}
 use mathlib.Core.List.{List, [], _∷_, _++_, dropLast, append-nil}
 use mathlib.Core.Path.{_≡_, refl, sym, ap, _∙_, subst}
-use Prim.Native.Nat.{ℕ, suc, _+_, _≤_, _<_}
+use Prim.Native.Nat.{ℕ, suc, _+_, _≤_}
 use native.Mathlib.Omega.{arith}
 use lib.Dec.{T, eqb, leb, eqb→eq, eqb-refl, leb→le, le→leb, lit≤, lit<, T-not}
 use lib.ListN.{length, length-append}
@@ -82,7 +82,7 @@ pub proper-not-up : (n : Name) → T (proper n) → T (not (isUp n))
 unfolding proper
 proper-not-up n h = and-left (not (isUp n)) (noSlash n) (and-right (not (vanishes n)) (not (isUp n) && noSlash n) h)
 
-shown-proper : (n : Name) → Shown n → T (not (isUp n)) → T (proper n)
+pub shown-proper : (n : Name) → Shown n → T (not (isUp n)) → T (proper n)
 unfolding proper
 shown-proper n h u = and-both (not (vanishes n)) (not (isUp n) && noSlash n) (h .stays) (and-both (not (isUp n)) (noSlash n) u (no-slash n (h .plain)))
 

@@ -1,14 +1,14 @@
+pub mod Allowed
 pub mod Cutting
 pub mod Dots
 pub mod Dropping
 pub mod Every
-pub mod Filling
 pub mod Following
 pub mod Forming
 pub mod Keeping
 pub mod Lasts
 pub mod Laws
 pub mod Reading
-pub mod Running
 pub mod Storing
 pub mod Texts
+pub mod Walking

@@ -9,10 +9,9 @@ use native.Mathlib.Omega.{arith}
 use lib.ListN.{length, take, drop, set, take-append-drop}
 use lib.Seq.{paste, take-length, take-at, take-take, drop-at, drop-set-lt, take-suc-set, length-take-le}
 use Rattle.text.specs.Utf8.{Bytes}
-use Rattle.path.specs.Path.{Name, pieces, body}
+use Rattle.path.specs.Path.{Name, body}
 use Rattle.path.specs.Backward.{sifted}
-use Rattle.path.proofs.Dropping.{body-run, body-run-length}
-use Rattle.path.proofs.Reading.{Read, read-all}
+use Rattle.path.proofs.Reading.{Read, read-all, body-cons-length}
 
 pub put-done : (out : Bytes) (at : ℕ) (n : Name) (j : ℕ) → j ≡ length n → at < length out
     → paste (set out at 47) (at + 1) n j ≡ take at out ++ ((47 ∷ n) ++ drop (at + 1 + length n) out)
@@ -31,19 +30,20 @@ unfolding body
 stored-none out end = record { width = omega arith; front = refl; back = refl }
 
 module _ (before out : Bytes) (at end : ℕ) (kept : List Name) (w : Stored before out at end kept) where
-  -- the pieces of a text more
-  pub stored-more : (out′ : Bytes) (at′ : ℕ) (n : Bytes) → at ≤ length out → at′ + 1 + length n ≡ at
-      → out′ ≡ take at′ out ++ ((47 ∷ n) ++ drop (at′ + 1 + length n) out) → Stored before out′ at′ end (pieces n ++ kept)
+  -- a name more
+  pub stored-more : (out′ : Bytes) (at′ : ℕ) (n : Name) → at ≤ length out → at′ + 1 + length n ≡ at
+      → out′ ≡ take at′ out ++ ((47 ∷ n) ++ drop (at′ + 1 + length n) out) → Stored before out′ at′ end (n ∷ kept)
+  unfolding body
   stored-more out′ at′ n room e put =
       let l : length (take at′ out) ≡ at′ = length-take-le at′ out (omega arith) in
       let m : at′ ≤ at = omega arith in
       record {
-        width = omega (arith, w .width, body-run-length n kept);
+        width = omega (arith, w .width, body-cons-length n kept);
         front = ap (λ (x : Bytes). take at′ x) put ∙ take-at (take at′ out) ((47 ∷ n) ++ drop (at′ + 1 + length n) out) at′ l
             ∙ sym (take-take at′ at out m) ∙ ap (λ (x : Bytes). take at′ x) (w .front) ∙ take-take at′ at before m;
         back = ap (λ (x : Bytes). drop at′ x) put ∙ drop-at (take at′ out) ((47 ∷ n) ++ drop (at′ + 1 + length n) out) at′ l
             ∙ ap (λ (x : ℕ). (47 ∷ n) ++ drop x out) e ∙ ap (λ (x : Bytes). (47 ∷ n) ++ x) (w .back)
-            ∙ sym (append-assoc (47 ∷ n) (body kept) (drop end before)) ∙ ap (λ (x : Bytes). x ++ drop end before) (sym (body-run n kept));
+            ∙ sym (append-assoc (47 ∷ n) (body kept) (drop end before));
       }
 
   -- all names

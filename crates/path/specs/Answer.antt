@@ -5,9 +5,9 @@ use mathlib.Core.List.{List, [], _∷_, _++_}
 use mathlib.Core.Path.{_≡_}
 use Prim.Native.Nat.{ℕ, _+_, _-_, _≤_, _<_}
 use lib.Dec.{leb}
-use lib.ListN.{length, drop, getD}
+use lib.ListN.{length, take, drop, getD}
 use Rattle.text.specs.Utf8.{Bytes}
-use Rattle.path.specs.Path.{Name, pieces, vanishes, normal, absolute, body, lastName}
+use Rattle.path.specs.Path.{Name, pieces, normal, absolute, body, lastName}
 use Rattle.path.specs.Backward.{sift, sifted, mk, front, part}
 use Rattle.path.specs.declared.answer.Formed.{Formed}
 use Rattle.path.specs.declared.answer.Formed.the-variants.{Text, TooLong}
@@ -16,8 +16,6 @@ use Rattle.path.specs.declared.answer.Last.{Last}
 use Rattle.path.specs.declared.answer.Last.the-variants.{At, Left}
 use Rattle.path.specs.declared.answer.Place.{Place}
 use Rattle.path.specs.declared.answer.Place.the-variants.{InPath, InCwd, Nowhere}
-use Rattle.path.specs.declared.answer.Next.{Next}
-use Rattle.path.specs.declared.answer.Next.the-variants.{Vanishes, Stays}
 use Rattle.path.specs.declared.answer.Plain.{Plain}
 use Rattle.path.specs.declared.answer.Plain.the-variants.{From, No}
 use Rattle.path.specs.declared.answer.Back.{Back}
@@ -35,6 +33,10 @@ formed t = pick (leb (length t) 1024) (Text (length t)) TooLong
 -- the text t stands in front and nothing else is changed; a refusal changes nothing
 unfoldable pub written : Bytes → Bytes → Bytes
 written t before = cond (leb (length t) 1024) (t ++ drop (length t) before) before
+
+-- the buffer with the text t in front of the index `end`
+abbrev pub endsAt : ℕ → Bytes → Bytes → Bytes
+endsAt end t before = take (end - length t) before ++ (t ++ drop end before)
 
 -- the answer and the buffer, before and after, of a function that forms the text t
 pub record Forms (t before after : Bytes) (r : Formed) : Type 0 where
@@ -90,20 +92,9 @@ pub record WholeIs (s : Bytes) (a e : ℕ) : Type 0 where
   pub fits : e ≤ length s
   pub stop : e < length s → getD s e 0 ≡ 47
 
--- Vanishes: the piece that begins at a ends at e and vanishes. Stays: it does not
-abbrev pub NextIs : Next → Bytes → ℕ → Type 0
-NextIs (Vanishes e) s a = WholeIs s a e × (vanishes (part a e s) ≡ true)
-NextIs Stays s a = (e : ℕ) → WholeIs s a e → vanishes (part a e s) ≡ false
-
--- no byte d from a up to, not including, e has a d or a dot behind it
-abbrev pub Clean : ℕ → Bytes → ℕ → ℕ → Type 0
-Clean d s a e = (k : ℕ) → k < e → a ≤ k → getD s k 0 ≡ d → (getD s (k + 1) 0 ≡ d → ⊥) × (getD s (k + 1) 0 ≡ 46 → ⊥)
-
--- the pieces from r up to the slash before a are all kept, as those from a on are
-abbrev pub RunIs : Bytes → ℕ → ℕ → Type 0
-RunIs s a r =
-    (r ≤ a) × ((strike : Bool) (e : ℕ) (ns : List Name) → a ≤ e → e ≤ length s
-    → sift strike (front a s) (mk 0 (pieces (part a e s) ++ ns)) ≡ sift strike (front r s) (mk 0 (pieces (part r e s) ++ ns)))
+-- no slash from a up to, not including, e has a slash or a dot behind it
+abbrev pub Clean : Bytes → ℕ → ℕ → Type 0
+Clean s a e = (k : ℕ) → k < e → a ≤ k → getD s k 0 ≡ 47 → (getD s (k + 1) 0 ≡ 47 → ⊥) × (getD s (k + 1) 0 ≡ 46 → ⊥)
 
 -- Gone: what is left of the pieces keeps the same names behind it, with k still to drop. Keeps: the name from a on is kept,
 -- since none is still to drop

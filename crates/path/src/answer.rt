@@ -35,14 +35,6 @@ pub enum Place {
     Nowhere,
 }
 
-// The next piece.
-pub enum Next {
-    // It vanishes, as the empty one and `.` do, and ends here.
-    Vanishes(usize),
-    // It is a name.
-    Stays,
-}
-
 // One piece, read from the end of what is left.
 pub enum Back {
     // No name is kept: what is left ends at the first number, and the second counts the names that are still dropped.

@@ -7,7 +7,7 @@ use Prim.Native.Nat.{ℕ, suc, _+_, _-_, _≤_, _<_}
 use native.Mathlib.Omega.{arith}
 use lib.ListN.{length, take, drop, getD, length-drop}
 use lib.Seq.{length-take-le, take-at, take-append-le, drop-append-le, take-take, take-suc, drop-drop, length-slice}
-use Rattle.moves.proofs.Cuts.{up-to, none-between, drop-take, part-is}
+use Rattle.blocks.proofs.Cuts.{up-to, none-between, drop-take, part-is}
 use Rattle.layout.specs.Fields.{depthOf, nlenOf, slotOf}
 use Rattle.layout.specs.Rows.{Row, rows, nameTotal}
 use Rattle.layout.specs.Slots.{total, split, contents}

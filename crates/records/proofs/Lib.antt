@@ -3,3 +3,4 @@ pub mod Lifts
 pub mod Opens
 pub mod Closes
 pub mod Swings
+pub mod Lowers

@@ -6,7 +6,7 @@ use Prim.Native.Nat.{ℕ, suc, _+_, _-_, _^_, _≤_, _<_}
 use native.Mathlib.Omega.{arith}
 use lib.ListN.{length, take, drop, getD, set, length-append, take-append-drop}
 use lib.Seq.{length-take-le, take-suc, drop-cons, drop-append-le, set-at, getD-at, length-slice}
-use Rattle.moves.proofs.Cuts.{none-between}
+use Rattle.blocks.proofs.Cuts.{none-between}
 use Rattle.layout.specs.Fields.{depthOf, nlenOf, slotOf}
 use Rattle.records.specs.Blocks.{each, changed, lift, Liftable}
 

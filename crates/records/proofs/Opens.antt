@@ -6,8 +6,8 @@ use Prim.Native.Nat.{ℕ, _+_, _-_, _≤_, _<_}
 use native.Mathlib.Omega.{arith}
 use lib.ListN.{length, take, drop, set, length-append}
 use lib.Seq.{paste, length-take-le, take-at, drop-at, take-take, length-slice, set-at}
-use Rattle.moves.specs.Gap.{moved}
-use Rattle.moves.proofs.Cuts.{quarter, up, over}
+use Rattle.blocks.specs.Gap.{moved}
+use Rattle.blocks.proofs.Cuts.{quarter, up, over}
 use Rattle.layout.specs.Fields.{nlenOf}
 use Rattle.layout.specs.Rows.{Row, rows, nameTotal}
 use Rattle.records.specs.Blocks.{rowOf, Opened}

@@ -8,9 +8,9 @@ use native.Mathlib.Omega.{arith}
 use lib.ListN.{length, take, drop, getD, length-append, take-append-drop}
 use lib.Seq.{length-take-le, take-at, drop-at, take-append-le, drop-append-le, take-take, getD-take, getD-drop, length-slice}
 use borrow.Author.Tests.{le-leb, lt-leb}
-use Rattle.turns.specs.Turn.{turned}
-use Rattle.turns.proofs.Laws.{turned-parts, turned-append}
-use Rattle.moves.proofs.Cuts.{thirds, quarter, part-is}
+use Rattle.blocks.specs.Turn.{turned}
+use Rattle.blocks.proofs.Turns.{turned-parts, turned-append}
+use Rattle.blocks.proofs.Cuts.{thirds, quarter, part-is}
 use Rattle.layout.specs.Fields.{depthOf, nlenOf, slotOf}
 use Rattle.layout.specs.Rows.{Row, rows, nameTotal}
 use Rattle.records.specs.Blocks.{each, changed, lift, raise, raised, moveTo, Liftable, Moved}
@@ -90,7 +90,7 @@ changed-append f p q a b h₁ h₂ =
     ∙ ap (λ (l : List ℕ). take a p ++ l) (sym (append-assoc X (drop b p) q))
     ∙ sym (append-assoc (take a p) (X ++ drop b p) q)
 
-length-changed : (f : ℕ → ℕ) (s : List ℕ) (a b : ℕ) → a ≤ b → b ≤ length s → length (changed f s a b) ≡ length s
+pub length-changed : (f : ℕ → ℕ) (s : List ℕ) (a b : ℕ) → a ≤ b → b ≤ length s → length (changed f s a b) ≡ length s
 length-changed f s a b h₁ h₂ =
     let X : List ℕ = drop a (take b s) in
     length-append (take a s) (each f X ++ drop b s)
@@ -162,7 +162,7 @@ module _ (ws bs ws₁ : List ℕ) (n a b u d : ℕ) (h₁ : a ≤ b) (h₂ : b �
   size : length (take n ws) ≡ n
   size = length-take-le n ws h₃
 
-  size₁ : length L₁ ≡ n
+  pub size₁ : length L₁ ≡ n
   size₁ = length-changed (lift u d) (take n ws) a b h₁ (omega (arith, size)) ∙ size
 
   ready : (j : ℕ) → a ≤ j → j < b → Liftable (getD (take n ws) j 0) u d
@@ -173,10 +173,10 @@ module _ (ws bs ws₁ : List ℕ) (n a b u d : ℕ) (h₁ : a ≤ b) (h₂ : b �
       e₁ ∙ ap (λ (l : List ℕ). changed (lift u d) l a b) (sym (take-append-drop n ws))
       ∙ changed-append (lift u d) (take n ws) (drop n ws) a b h₁ (omega (arith, size))
 
-  first : (k : ℕ) → k ≤ n → take k ws₁ ≡ take k L₁
+  pub first : (k : ℕ) → k ≤ n → take k ws₁ ≡ take k L₁
   first k h = ap (take k) shape ∙ take-append-le k L₁ (drop n ws) (omega (arith, size₁))
 
-  total₁ : nameTotal L₁ ≡ nameTotal (take n ws)
+  pub total₁ : nameTotal L₁ ≡ nameTotal (take n ws)
   total₁ = total-lifted u d (take n ws) a b h₁ (omega (arith, size)) ready
 
   pub names-room : (k : ℕ) → k ≤ n → nameTotal (take k ws₁) ≤ length bs

@@ -3,13 +3,17 @@
 use mathlib.Core.Path.{_≡_}
 use mathlib.Core.Bool.{cond}
 use mathlib.Core.List.{List, [], _∷_, _++_}
-use Prim.Native.Nat.{ℕ, _+_, _-_, _≤_, _<_}
+use Prim.Native.Nat.{ℕ, suc, _+_, _-_, _≤_, _<_}
 use lib.Dec.{leb}
-use lib.ListN.{length, take, drop}
+use lib.ListN.{length, take, drop, getD}
+use denote.Ref.{now}
+use Rattle.layout.specs.Numbers.{depths}
+use Rattle.layout.specs.Lent.{Slices}
 use Rattle.layout.specs.Fields.{depthOf, slotOf}
 use Rattle.layout.specs.Rows.{Row, rows, nameTotal}
 use Rattle.layout.specs.Slots.{total, contents}
-use Rattle.turns.specs.Turn.{turned}
+use Rattle.layout.specs.Parts.{deepen}
+use Rattle.blocks.specs.Turn.{turned}
 
 -- the entry of a word and a name
 abbrev pub rowOf : ℕ → List ℕ → Row
@@ -61,7 +65,11 @@ moveTo xs a b p = cond (leb p a) (turned xs p a b) (turned xs a b p)
 -- the depth of a word's entry may change so
 pub record Liftable (w up down : ℕ) : Type 0 where
   pub low : down ≤ depthOf w + up
-  pub high : depthOf w + up < down + 65536
+  pub high : depthOf w + up < down + depths
+
+-- the depths of the entries from a to b may
+abbrev pub Liftables : List ℕ → ℕ → ℕ → ℕ → ℕ → Type 0
+Liftables ws a b up down = (j : ℕ) → a ≤ j → j < b → Liftable (getD ws j 0) up down
 
 -- what is left where the entries from a to b of the first count are raised and moved before the p-th
 pub record Moved (ws bs ws′ bs′ : List ℕ) (count a b p up down : ℕ) : Type 0 where
@@ -72,3 +80,32 @@ pub record Moved (ws bs ws′ bs′ : List ℕ) (count a b p up down : ℕ) : Ty
   pub rest : drop (nameTotal (take count ws)) bs′ ≡ drop (nameTotal (take count ws)) bs
   pub recordCount : length ws′ ≡ length ws
   pub byteCount : length bs′ ≡ length bs
+
+-- what is left where the entry at i goes one deeper under the name x, with those below it up to e, and an entry of its old name and of
+-- slot s stands in its place
+pub record Lowered (ws bs ws′ bs′ : List ℕ) (count i e s : ℕ) (x : List ℕ) : Type 0 where
+  pub all : (A : List Row) (r : Row) (X C : List Row) → rows (take count ws) bs ≡ A ++ (r ∷ (X ++ C)) → length A ≡ i → suc (i + length X) ≡ e
+      → rows (take (count + 1) ws′) bs′
+      ≡ A ++ (record { depth = r .depth; name = r .name; slot = s } ∷ (record { depth = suc (r .depth); name = x; slot = r .slot } ∷ (deepen (r .depth) (suc (r .depth)) X ++ C)))
+  pub sum : nameTotal (take (count + 1) ws′) ≡ nameTotal (take count ws) + length x
+  pub texts : (hs : List ℕ) → nameTotal (take count ws) + length x + total hs ≤ length bs → contents hs bs′ ≡ contents hs bs
+  pub recordCount : length ws′ ≡ length ws
+  pub byteCount : length bs′ ≡ length bs
+
+-- ---- the same of slices at a function's two moments
+
+-- an entry put in
+abbrev pub Opens : Slices ℕ → Slices ℕ → ℕ → ℕ → ℕ → List ℕ → Type 0
+Opens records bytes count k w x = Opened (now (records .entry)) (now (bytes .entry)) (now (records .exit)) (now (bytes .exit)) count k w x
+
+-- entries taken out
+abbrev pub Closes : Slices ℕ → Slices ℕ → ℕ → ℕ → ℕ → Type 0
+Closes records bytes count a b = Closed (now (records .entry)) (now (bytes .entry)) (now (records .exit)) (now (bytes .exit)) count a b
+
+-- entries moved
+abbrev pub Moves : Slices ℕ → Slices ℕ → ℕ → ℕ → ℕ → ℕ → ℕ → ℕ → Type 0
+Moves records bytes count a b p up down = Moved (now (records .entry)) (now (bytes .entry)) (now (records .exit)) (now (bytes .exit)) count a b p up down
+
+-- an entry one deeper, and another in its place
+abbrev pub Lowers : Slices ℕ → Slices ℕ → ℕ → ℕ → ℕ → ℕ → List ℕ → Type 0
+Lowers records bytes count i e s x = Lowered (now (records .entry)) (now (bytes .entry)) (now (records .exit)) (now (bytes .exit)) count i e s x

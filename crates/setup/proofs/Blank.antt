@@ -8,7 +8,7 @@ use Prim.Native.Nat.{ℕ, zero, suc, _≤_, zero-le}
 use lib.Dec.{lit<, eqb·zero-suc}
 use lib.ListN.{length, take, drop, getD}
 use Rattle.model.specs.Tree.{Node}
-use Rattle.model.specs.Calls.{freshState}
+use Rattle.model.specs.Calls.States.{freshState}
 use Rattle.model.specs.Rules.{namesOk, pathOk}
 use Rattle.path.specs.Path.{names, pieces, keep, vanishes, same, body, pathFits}
 use Rattle.layout.specs.Rows.{rows, nameTotal, treeFrom}

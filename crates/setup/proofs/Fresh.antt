@@ -8,7 +8,7 @@ use lib.IntN.{ℤ}
 use lib.ListN.{length, take, drop, getD, set, replicate, length-append, length-drop}
 use lib.Seq.{take-append-seam, drop-append-seam, length-take-le, getD-drop}
 use Rattle.text.specs.Utf8.{Bytes}
-use Rattle.layout.specs.Store.{Store, lent, cut, spare}
+use Rattle.layout.specs.Store.{Store, lent, core, spare}
 use Rattle.layout.specs.Lawful.{Long}
 use Rattle.layout.proofs.Zeros.{zeros-read}
 use Rattle.setup.specs.SetUp.{freshWords}
@@ -70,7 +70,7 @@ module _ (m b : ℕ) (ws rs hs : List ℕ) (ts : List ℤ) (ps bs : Bytes) where
           bytes = rw has-room lb;
         }
 
-    pub left-blank : Blank m b (cut left)
+    pub left-blank : Blank m b (core left)
     left-blank =
         record {
           exact =

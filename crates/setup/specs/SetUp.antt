@@ -1,4 +1,4 @@
--- Set up (01, "Limits", refusals 15 and 16; docs/LAYOUT.md, "Sizes").
+-- Set up (01, refusals 15 and 16, and docs/LAYOUT.md on sizes).
 -- Assumes nothing.
 use mathlib.Core.Bool.{Bool, _&&_, cond}
 use mathlib.Core.List.{List, _++_}
@@ -6,20 +6,21 @@ use mathlib.Core.Path.{_≡_}
 use Prim.Native.Nat.{ℕ, zero, suc, _*_}
 use lib.Dec.{leb}
 use lib.ListN.{length, drop, replicate, set}
-use Rattle.model.specs.Calls.{freshState}
-use Rattle.layout.specs.Store.{Store, slotsFor, cut, spare, state}
-use Rattle.layout.specs.Lawful.{Passes}
+use Rattle.model.specs.Calls.States.{freshState}
+use Rattle.layout.specs.Numbers.{mostEntries, leastBytes, mostBytes, wordCount, mostAt, roomAt, maskAt, pathsBytes}
+use Rattle.layout.specs.Store.{Store, slotsFor, core, spare, state}
+use Rattle.layout.specs.Lawful.{Keeps}
 
 -- "an entry limit of 1 to 4,096", and each slice of the entry storage long enough for it
 unfoldable pub entriesFit : ℕ → ℕ → ℕ → ℕ → ℕ → ℕ → Bool
 entriesFit words records heads times paths m =
-    leb 1 m && (leb m 4096 && (leb 102 words && (leb m records && (leb (slotsFor m) heads && (leb (4 * slotsFor m) times && leb 33792 paths)))))
+    leb 1 m && (leb m mostEntries && (leb wordCount words && (leb m records && (leb (slotsFor m) heads && (leb (4 * slotsFor m) times && leb pathsBytes paths)))))
 
 -- "a byte limit of 256 to 1,048,576", and the byte storage long enough for it
 unfoldable pub bytesFit : ℕ → ℕ → Bool
-bytesFit bytes b = leb 256 b && (leb b 1048576 && leb b bytes)
+bytesFit bytes b = leb leastBytes b && (leb b mostBytes && leb b bytes)
 
--- 15, 16 or 0: "every 15 before any 16"
+-- 15, 16 or 0: 15 is asked before 16
 unfoldable pub refusalOf : ℕ → ℕ → Store → ℕ
 refusalOf m b st =
     cond (entriesFit (length (st .words)) (length (st .records)) (length (st .heads)) (length (st .times)) (length (st .paths)) m)
@@ -28,12 +29,12 @@ refusalOf m b st =
 
 -- the words of a fresh state, before what stands behind them
 unfoldable pub freshWords : ℕ → ℕ → List ℕ → List ℕ
-freshWords m b ws = set (set (set (replicate 102 0 ++ drop 102 ws) 0 m) 1 b) 3 0o666
+freshWords m b ws = set (set (set (replicate wordCount 0 ++ drop wordCount ws) mostAt m) roomAt b) maskAt 0o666
 
 -- what stands there after an answer of 0: the fresh state, whatever stood there before, and behind it what was there; and after a
 -- refusal
 abbrev pub Leaves : ℕ → ℕ → ℕ → Store → Store → Type 0
-Leaves zero m b st st′ = Passes st′ × (state (cut st′) ≡ freshState m b) × (spare m b st′ ≡ spare m b st)
+Leaves zero m b st st′ = Keeps st′ × (state (core st′) ≡ freshState m b) × (spare m b st′ ≡ spare m b st)
 Leaves (suc n) m b st st′ = st′ ≡ st
 
 -- the answer, and what is left

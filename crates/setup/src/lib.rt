@@ -3,8 +3,18 @@ ghost use mathlib.Core.Path.{_≡_};
 ghost use mathlib.Core.List.{_++_};
 ghost use Prim.Native.Nat.{_≤_};
 ghost use lib.ListN.{length, drop, replicate};
-ghost use Rattle.layout.specs.Store.{lent};
+ghost use Rattle.layout.specs.Numbers.{wordCount};
+ghost use Rattle.layout.specs.Lent.{before, after};
 ghost use Rattle.setup.specs.SetUp.{entriesFit, bytesFit, freshWords, IsSetUp};
+use layout::FILE_NUMBERS;
+use layout::LEAST_BYTES;
+use layout::MASK_AT;
+use layout::MOST_AT;
+use layout::MOST_BYTES;
+use layout::MOST_ENTRIES;
+use layout::PATHS_BYTES;
+use layout::ROOM_AT;
+use layout::WORD_COUNT;
 
 // Zeros in front of all else.
 fn zero_words(s: &mut [u64], n: usize)
@@ -20,13 +30,13 @@ fn zero_words(s: &mut [u64], n: usize)
 
 // The limits, no entry, the umask octal 666, the root as current directory, every file number closed, no slot.
 fn fresh_words(words: &mut [u64], entries: u64, bytes: u64)
-    requires { ⌜ 102 ≤ length (now words) ⌝ }
+    requires { ⌜ wordCount ≤ length (now words) ⌝ }
     ensures { λ _. ⌜ now (words .exit) ≡ freshWords entries bytes (now (words .entry)) ⌝ }
 {
-    zero_words(words, 102);
-    words[0] = entries;
-    words[1] = bytes;
-    words[3] = 0o666;
+    zero_words(words, WORD_COUNT);
+    words[MOST_AT] = entries;
+    words[ROOM_AT] = bytes;
+    words[MASK_AT] = 0o666;
 }
 
 // Whether the limit is one of 1 to 4,096, and the entry storage long enough for it.
@@ -43,33 +53,33 @@ fn entries_fit(
     if limit < 1 {
         return false;
     }
-    if 4096 < limit {
+    if MOST_ENTRIES < limit {
         return false;
     }
     let n = limit as usize;
-    if words < 102 {
+    if words < WORD_COUNT {
         return false;
     }
     if records < n {
         return false;
     }
-    if heads < n + 32 {
+    if heads < n + FILE_NUMBERS {
         return false;
     }
-    if times < 4 * (n + 32) {
+    if times < 4 * (n + FILE_NUMBERS) {
         return false;
     }
-    33792 <= paths
+    PATHS_BYTES <= paths
 }
 
 // Whether the limit is one of 256 to 1,048,576, and the byte storage long enough for it.
 fn bytes_fit(bytes: usize, limit: u64) -> bool
     ensures { λ r. ⌜ r ≡ bytesFit bytes limit ⌝ }
 {
-    if limit < 256 {
+    if limit < LEAST_BYTES {
         return false;
     }
-    if 1048576 < limit {
+    if MOST_BYTES < limit {
         return false;
     }
     limit as usize <= bytes
@@ -87,7 +97,7 @@ pub extern "C" fn set_up(
     limit: u64,
     room: u64,
 ) -> u32
-    ensures { λ r. ⌜ IsSetUp limit room (lent (now (words .entry)) (now (records .entry)) (now (heads .entry)) (now (times .entry)) (now (paths .entry)) (now (bytes .entry))) (lent (now (words .exit)) (now (records .entry)) (now (heads .entry)) (now (times .entry)) (now (paths .entry)) (now (bytes .entry))) r ⌝ }
+    ensures { λ r. ⌜ IsSetUp limit room (before words records heads times paths bytes) (after words records heads times paths bytes) r ⌝ }
 {
     if !entries_fit(
         words.len(),

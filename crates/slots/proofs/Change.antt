@@ -7,8 +7,8 @@ use Prim.Native.Nat.{ℕ, suc, _+_, _-_, _≤_, _<_}
 use native.Mathlib.Omega.{arith}
 use lib.ListN.{length, take, drop, getD, set, replicate, length-append, length-take, length-drop, length-set, length-replicate, take-append-drop}
 use lib.Seq.{paste, set-getD, getD-set-same, set-set, length-take-le, take-at, drop-at, take-append-le, take-take, take-all, take-length}
-use Rattle.moves.specs.Gap.{moved}
-use Rattle.moves.proofs.Cuts.{down, up}
+use Rattle.blocks.specs.Gap.{moved}
+use Rattle.blocks.proofs.Cuts.{down, up}
 use Rattle.layout.specs.Fields.{lenOf}
 use Rattle.layout.specs.Slots.{total, start, contents}
 use Rattle.slots.specs.Put.{withLen, fitted, Put, Freed}

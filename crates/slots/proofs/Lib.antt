@@ -6,3 +6,6 @@ pub mod Filling
 pub mod Change
 pub mod Sweeps
 pub mod Laws
+pub mod Counting
+pub mod Rowed
+pub mod Seeking

@@ -1,3 +1,4 @@
 pub mod Free
 pub mod Put
 pub mod Times
+pub mod Uses

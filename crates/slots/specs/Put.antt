@@ -3,11 +3,13 @@
 use mathlib.Core.Path.{_≡_}
 use mathlib.Core.Bool.{cond}
 use mathlib.Core.List.{List, [], _∷_, _++_}
+use denote.Ref.{now}
 use Prim.Native.Nat.{ℕ, _+_, _-_, _≤_}
 use lib.Dec.{eqb}
 use lib.ListN.{length, take, set, getD, replicate}
-use Rattle.moves.specs.Gap.{moved}
+use Rattle.blocks.specs.Gap.{moved}
 use Rattle.layout.specs.Fields.{lenOf}
+use Rattle.layout.specs.Lent.{Slices}
 use Rattle.layout.specs.Slots.{total, start, contents}
 
 -- the word h with the length n
@@ -55,3 +57,21 @@ pub record Step (hs bs hs′ bs′ : List ℕ) (i keep src dst r : ℕ) : Type 0
   pub heads : hs′ ≡ set hs i (cond (eqb keep 0) 0 (getD hs i 0))
   pub bytes : bs′ ≡ cond (eqb keep 0) bs (moved bs (src - lenOf (getD hs i 0)) (src - lenOf (getD hs i 0) + (dst - src)) (lenOf (getD hs i 0)))
   pub next : r ≡ cond (eqb keep 0) dst (dst - lenOf (getD hs i 0))
+
+-- ---- the same of slices at a function's two moments
+
+-- the bytes of the slots before
+abbrev pub textsOf : Slices ℕ → Slices ℕ → List (List ℕ)
+textsOf heads bytes = contents (now (heads .entry)) (now (bytes .entry))
+
+-- x put as the bytes of slot k
+abbrev pub Puts : Slices ℕ → Slices ℕ → ℕ → ℕ → List ℕ → Type 0
+Puts heads bytes k n x = Put (now (heads .entry)) (now (bytes .entry)) (now (heads .exit)) (now (bytes .exit)) k n x
+
+-- slots freed
+abbrev pub Frees : Slices ℕ → Slices ℕ → List ℕ → List (List ℕ) → Type 0
+Frees heads bytes ws cs = Freed (now (heads .entry)) (now (bytes .entry)) (now (heads .exit)) (now (bytes .exit)) ws cs
+
+-- one slot of a sweep
+abbrev pub Steps : Slices ℕ → Slices ℕ → ℕ → ℕ → ℕ → ℕ → ℕ → Type 0
+Steps heads bytes i keep src dst r = Step (now (heads .entry)) (now (bytes .entry)) (now (heads .exit)) (now (bytes .exit)) i keep src dst r

@@ -3,14 +3,15 @@ ghost use mathlib.Core.Path.{_≡_};
 ghost use mathlib.Core.List.{_++_, []};
 ghost use Prim.Native.Nat.{_+_, _*_, _-_, _^_, _<_, _≤_};
 ghost use lib.ListN.{length, take, drop, getD, set, replicate};
+ghost use Rattle.layout.specs.Numbers.{lengths};
 ghost use Rattle.layout.specs.Fields.{lenOf};
-ghost use Rattle.layout.specs.Slots.{total, contents};
+ghost use Rattle.layout.specs.Slots.{total};
 ghost use Rattle.slots.specs.Free.{freeFrom};
 ghost use Rattle.slots.specs.Times.{timesSet};
-ghost use Rattle.slots.specs.Put.{fitted, swept, sweptC, Put, Freed, Step};
+ghost use Rattle.slots.specs.Put.{fitted, swept, sweptC, textsOf, Puts, Frees, Steps};
+use layout::LENGTHS;
 
-// The length field of a word is its low 24 bits.
-const LENGTHS: u64 = 16777216;
+pub mod marks;
 
 pub enum Slot {
     At(usize),
@@ -59,8 +60,9 @@ fn zeros(s: &mut [u8], a: usize, e: usize)
 
 // Cuts the bytes of slot k to n, or extends them by zeros. What stands in front of them moves; what stands behind stays.
 pub fn resize(heads: &mut [u64], bytes: &mut [u8], k: usize, n: usize)
-    requires { ⌜ (k < length (now heads)) × (n < 16777216) × (total (now heads) ≤ length (now bytes)) × (total (now heads) + n ≤ length (now bytes) + lenOf (getD (now heads) k 0)) ⌝ }
-    ensures { λ _. ⌜ Put (now (heads .entry)) (now (bytes .entry)) (now (heads .exit)) (now (bytes .exit)) k n (fitted n (getD (contents (now (heads .entry)) (now (bytes .entry))) k [])) ⌝ }
+    requires { ⌜ (k < length (now heads)) × (n < lengths) × (total (now heads) ≤ length (now bytes))
+        × (total (now heads) + n ≤ length (now bytes) + lenOf (getD (now heads) k 0)) ⌝ }
+    ensures { λ _. ⌜ Puts heads bytes k n (fitted n (getD (textsOf heads bytes) k [])) ⌝ }
 {
     let h = heads[k];
     let old = (h % LENGTHS) as usize;
@@ -69,32 +71,33 @@ pub fn resize(heads: &mut [u64], bytes: &mut [u8], k: usize, n: usize)
     let from = bytes.len() - all;
     heads[k] = h - old as u64 + n as u64;
     if n < old {
-        moves::open_gap(bytes, from + before + n, from, old - n);
+        blocks::open_gap(bytes, from + before + n, from, old - n);
         return;
     }
     let end = from + before + old;
     let g = n - old;
-    moves::close_gap(bytes, end, from - g, g);
+    blocks::close_gap(bytes, end, from - g, g);
     zeros(bytes, end - g, end);
 }
 
 // Puts text as the bytes of slot k.
 pub fn write(heads: &mut [u64], bytes: &mut [u8], k: usize, text: &[u8])
-    requires { ⌜ (k < length (now heads)) × (length (now text) < 16777216) × (total (now heads) ≤ length (now bytes)) × (total (now heads) + length (now text) ≤ length (now bytes) + lenOf (getD (now heads) k 0)) ⌝ }
-    ensures { λ _. ⌜ Put (now (heads .entry)) (now (bytes .entry)) (now (heads .exit)) (now (bytes .exit)) k (length (now (text .entry))) (now (text .entry)) ⌝ }
+    requires { ⌜ (k < length (now heads)) × (length (now text) < lengths) × (total (now heads) ≤ length (now bytes))
+        × (total (now heads) + length (now text) ≤ length (now bytes) + lenOf (getD (now heads) k 0)) ⌝ }
+    ensures { λ _. ⌜ Puts heads bytes k (length (now (text .entry))) (now (text .entry)) ⌝ }
 {
     let n = text.len();
     resize(heads, bytes, k, n);
     let all = sum_to(heads, heads.len());
     let before = sum_to(heads, k);
     let at = bytes.len() - all + before;
-    moves::copy_into(bytes, at, text);
+    blocks::copy_into(bytes, at, text);
 }
 
 // Frees slot k.
 pub fn clear(heads: &mut [u64], bytes: &mut [u8], k: usize)
     requires { ⌜ (k < length (now heads)) × (total (now heads) ≤ length (now bytes)) ⌝ }
-    ensures { λ _. ⌜ Freed (now (heads .entry)) (now (bytes .entry)) (now (heads .exit)) (now (bytes .exit)) (set (now (heads .entry)) k 0) (set (contents (now (heads .entry)) (now (bytes .entry))) k []) ⌝ }
+    ensures { λ _. ⌜ Frees heads bytes (set (now (heads .entry)) k 0) (set (textsOf heads bytes) k []) ⌝ }
 {
     resize(heads, bytes, k, 0);
     heads[k] = 0;
@@ -110,21 +113,21 @@ fn sweep_step(
     dst: usize,
 ) -> usize
     requires { ⌜ (i < length (now heads)) × (lenOf (getD (now heads) i 0) ≤ src) × (src ≤ dst) × (dst ≤ length (now bytes)) ⌝ }
-    ensures { λ r. ⌜ Step (now (heads .entry)) (now (bytes .entry)) (now (heads .exit)) (now (bytes .exit)) i keep src dst r ⌝ }
+    ensures { λ r. ⌜ Steps heads bytes i keep src dst r ⌝ }
 {
     if keep == 0 {
         heads[i] = 0;
         return dst;
     }
     let len = (heads[i] % LENGTHS) as usize;
-    moves::open_gap(bytes, src, src - len, dst - src);
+    blocks::open_gap(bytes, src, src - len, dst - src);
     dst - len
 }
 
 // Frees each slot whose mark is 0, in one pass from the last slot to the first.
 pub fn sweep(heads: &mut [u64], bytes: &mut [u8], marks: &[u8])
     requires { ⌜ (length (now marks) ≡ length (now heads)) × (total (now heads) ≤ length (now bytes)) ⌝ }
-    ensures { λ _. ⌜ Freed (now (heads .entry)) (now (bytes .entry)) (now (heads .exit)) (now (bytes .exit)) (swept (now (marks .entry)) (now (heads .entry))) (sweptC (now (marks .entry)) (contents (now (heads .entry)) (now (bytes .entry)))) ⌝ }
+    ensures { λ _. ⌜ Frees heads bytes (swept (now (marks .entry)) (now (heads .entry))) (sweptC (now (marks .entry)) (textsOf heads bytes)) ⌝ }
 {
     let mut i = heads.len();
     let mut src = bytes.len();

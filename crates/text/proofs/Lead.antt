@@ -4,19 +4,18 @@
 use mathlib.Core.Bool.{Bool, true, false, _&&_, cond, not}
 use mathlib.Core.List.{List, [], _∷_}
 use mathlib.Core.Path.{_≡_, refl, sym, ap, ap₂, _∙_}
-use Prim.Native.Nat.{ℕ, zero, suc, _+_, _≤_, _<_}
+use Prim.Native.Nat.{ℕ, zero, suc, _+_, _<_}
 use native.Mathlib.Nat.{add-zero, zero-add, add-suc, suc-add, le-of-suc-le-suc, not-suc-le-zero}
 use native.Mathlib.Omega.{arith}
 use native.Mathlib.Numerals.{add-one}
-use lib.Dec.{T, leb, ltb, eqb, eqb→eq, eqb·suc-zero}
+use lib.Dec.{T, leb, ltb, eqb, eqb→eq}
 use lib.ListN.{length, getD, drop, replicate}
 use lib.Seq.{drop-cons, drop-drop}
-use borrow.Author.Tests.{ne-eqb}
 use Rattle.text.proofs.Table.{both, both-left, both-right, every, at}
 use Rattle.text.proofs.Reading.{Next, stop, go, rowAfter, size, size-rows, ascends}
 use Rattle.text.specs.Utf8.{Bytes, Range, to, tail, inside, rows, starts, charLength}
 use Rattle.text.specs.Classes.{leads, classes, place, classOf, tabulate, table}
-use Rattle.text.specs.Steps.{plain, secondOf}
+use Rattle.text.specs.Steps.{secondOf}
 
 -- an entry of a list that is made by f
 tabulate-at : (f : ℕ → ℕ) (n k i : ℕ) → i < n → getD (tabulate f n k) i 0 ≡ f (k + i)
@@ -94,9 +93,9 @@ second b c lead _ =
 nine : List ℕ
 nine = replicate 9 0
 
--- an octet of the class c begins what the code asks for, is ASCII where the class is 0, and is second where `second` says
+-- an octet of the class c begins what the code asks for, and is second where `second` says
 right : ℕ → ℕ → Bool
-right b c = both (eqN (rowAfter rows b) (asked c)) (both (same (eqb c 0) (inside plain b)) (every (second b c) 0 nine))
+right b c = both (eqN (rowAfter rows b) (asked c)) (every (second b c) 0 nine)
 
 -- the rule of the table, at the class of each octet
 rule : (b : ℕ) → b < 256 → T (right b (classOf b))
@@ -109,30 +108,16 @@ unfolding right
 row-asked b h =
     let c : ℕ = classOf b in
     eqN→ (rowAfter rows b) (asked c)
-    (both-left (eqN (rowAfter rows b) (asked c)) (both (same (eqb c 0) (inside plain b)) (every (second b c) 0 nine)) (rule b h))
-
--- the other two parts of the rule
-others : (b : ℕ) → b < 256 → T (both (same (eqb (classOf b) 0) (inside plain b)) (every (second b (classOf b)) 0 nine))
-unfolding right
-others b h =
-    let c : ℕ = classOf b in
-    both-right (eqN (rowAfter rows b) (asked c)) (both (same (eqb c 0) (inside plain b)) (every (second b c) 0 nine)) (rule b h)
-
--- ASCII octets
-pub plain-class : (b : ℕ) → b < 256 → eqb (classOf b) 0 ≡ inside plain b
-plain-class b h =
-    let c : ℕ = classOf b in
-    same→ (eqb c 0) (inside plain b)
-    (both-left (same (eqb c 0) (inside plain b)) (every (second b c) 0 nine) (others b h))
+    (both-left (eqN (rowAfter rows b) (asked c)) (every (second b c) 0 nine) (rule b h))
 
 -- second octets
 pub second-class : (b lead : ℕ) → b < 256 → lead < 9
     → (leb (classOf (secondOf lead .low)) (classOf b) && leb (classOf b) (classOf (secondOf lead .high))) ≡ inside (secondOf lead) b
-unfolding second nine
+unfolding right second nine
 second-class b lead h l =
     let c : ℕ = classOf b in
     same→ (leb (classOf (secondOf lead .low)) c && leb c (classOf (secondOf lead .high))) (inside (secondOf lead) b)
-    (at (second b c) nine (both-right (same (eqb c 0) (inside plain b)) (every (second b c) 0 nine) (others b h)) lead l)
+    (at (second b c) nine (both-right (eqN (rowAfter rows b) (asked c)) (every (second b c) 0 nine) (rule b h)) lead l)
 
 -- the class of the lowest second octet, as the code has it
 abbrev pub lowest : ℕ → ℕ
@@ -183,40 +168,6 @@ pub second-starts : (s : Bytes) (i lead : ℕ) → i < length s → getD s i 0 <
 unfolding starts
 second-starts s i lead l h w =
     second-class (getD s i 0) lead h w ∙ sym (starts-at (secondOf lead) [] s i l ∙ and-true (inside (secondOf lead) (getD s i 0)))
-
--- an octet of ASCII, by its class
-plain-starts : (rs : List Range) (s : Bytes) (i : ℕ) → i < length s → getD s i 0 < 256
-    → starts (plain ∷ rs) (drop i s) ≡ (eqb (classOf (getD s i 0)) 0 && starts rs (drop (i + 1) s))
-plain-starts rs s i l h =
-    starts-at plain rs s i l ∙ ap (λ (x : Bool). x && starts rs (drop (i + 1) s)) (sym (plain-class (getD s i 0) h))
-
--- a sum is zero where each part is
-sum-zero : (a b c d : ℕ) → (eqb a 0 && (eqb b 0 && (eqb c 0 && (eqb d 0 && true)))) ≡ eqb (a + b + c + d) 0
-sum-zero zero zero zero zero = refl
-sum-zero zero zero zero (suc d) = rw (eqb·suc-zero d) (sym (ne-eqb (0 + 0 + 0 + suc d) 0 (λ e. omega arith)))
-sum-zero zero zero (suc c) d = rw (eqb·suc-zero c) (sym (ne-eqb (0 + 0 + suc c + d) 0 (λ e. omega arith)))
-sum-zero zero (suc b) c d = rw (eqb·suc-zero b) (sym (ne-eqb (0 + suc b + c + d) 0 (λ e. omega arith)))
-sum-zero (suc a) b c d = rw (eqb·suc-zero a) (sym (ne-eqb (suc a + b + c + d) 0 (λ e. omega arith)))
-
--- four octets of ASCII, by the sum of their classes
-pub four-starts : (s : Bytes) (i : ℕ) → i + 4 ≤ length s → ((k : ℕ) → getD s k 0 < 256)
-    → eqb (classOf (getD s i 0) + classOf (getD s (i + 1) 0) + classOf (getD s (i + 2) 0) + classOf (getD s (i + 3) 0)) 0
-    ≡ starts (replicate 4 plain) (drop i s)
-unfolding starts
-four-starts s i l h =
-    let e₂ : i + 1 + 1 ≡ i + 2 = omega arith in
-    let e₃ : i + 2 + 1 ≡ i + 3 = omega arith in
-    let class : ℕ → ℕ = λ k. classOf (getD s k 0) in
-    sym
-    (plain-starts (replicate 3 plain) s i (omega arith) (h i)
-    ∙ rw (
-      plain-starts (replicate 2 plain) s (i + 1) (omega arith) (h (i + 1)),
-      e₂,
-      plain-starts (replicate 1 plain) s (i + 2) (omega arith) (h (i + 2)),
-      e₃,
-      plain-starts [] s (i + 3) (omega arith) (h (i + 3)),
-    )
-    (sum-zero (class i) (class (i + 1)) (class (i + 2)) (class (i + 3))))
 
 -- the text begins with an octet of the first range and then with those of the others
 starts-both : (r : Range) (rs : List Range) (s : Bytes) → starts (r ∷ rs) s ≡ (starts (r ∷ []) s && starts rs (drop 1 s))

@@ -3,14 +3,14 @@
 use mathlib.Core.Bool.{Bool, true, false, _||_, true≢false}
 use mathlib.Core.List.{[], _∷_}
 use mathlib.Core.Path.{_≡_, refl, ap, _∙_}
-use Prim.Native.Nat.{ℕ, zero, suc, _+_, _-_, _/_, _≤_, _<_}
+use Prim.Native.Nat.{ℕ, zero, suc, _+_, _≤_}
 use native.Mathlib.Omega.{arith}
-use lib.Dec.{eqb, leb, ltb}
+use lib.Dec.{eqb, leb}
 use lib.ListN.{length, drop, getD, drop-of-length-le}
 use borrow.Author.Count.{below-more}
-use borrow.Author.Tests.{le-leb, eqb-false, leb-false, ltb-true, ltb-false}
+use borrow.Author.Tests.{le-leb, eqb-false, leb-false}
 use Rattle.text.specs.Utf8.{Bytes, starts, charLength, octets, text}
-use Rattle.text.specs.Looks.{odd, Plain}
+use Rattle.text.specs.Looks.{Plain}
 
 -- neither of two tests holds: the first
 pub or-left : (a b : Bool) → a || b ≡ false → a ≡ false
@@ -30,14 +30,6 @@ plain-more s a i seen w e =
     let o = or-left (seen || eqb b 0) (leb 128 b) e in
     below-more _ i (w (or-left seen (eqb b 0) o)) (λ _. rw (or-right seen (eqb b 0) o) (or-right (seen || eqb b 0) (leb 128 b) e))
 
--- two stretches, of which the second begins in the first or right behind it
-pub plain-join : (s : Bytes) (a b c e : ℕ) → b ≤ c → Plain s a c → Plain s b e → Plain s a e
-plain-join s a b c e l x y k h i = go (ltb k c) refl
-  where
-    go : (t : Bool) → ltb k c ≡ t → odd (getD s k 0) ≡ false
-    go true q = x k (ltb-true k c q) i
-    go false q = let w = ltb-false k c q in y k h (omega arith)
-
 -- such a stretch at the start does not decide
 pub plain-drop : (n : ℕ) (s : Bytes) → n ≤ length s → Plain s 0 n → text s ≡ text (drop n s)
 unfolding text octets charLength starts
@@ -53,14 +45,3 @@ plain-drop (suc n) (b ∷ s) h p =
 pub plain-text : (s : Bytes) → Plain s 0 (length s) → text s ≡ true
 unfolding text octets
 plain-text s p = plain-drop (length s) s (omega arith) p ∙ ap text (drop-of-length-le s {i = length s} (omega arith))
-
--- three octets at most: the first, the one in the middle and the last are all
-pub plain-three : (s : Bytes) (n : ℕ) → n < 4 → odd (getD s 0 0) ≡ false → odd (getD s (n / 2) 0) ≡ false → odd (getD s (n - 1) 0) ≡ false → Plain s 0 n
-plain-three s n h a b c zero k l = a
-plain-three s n h a b c (suc zero) k l =
-    let m : n / 2 ≡ 1 = omega arith in
-    rw m at b
-plain-three s n h a b c (suc (suc zero)) k l =
-    let m : n - 1 ≡ 2 = omega arith in
-    rw m at c
-plain-three s n h a b c (suc (suc (suc j))) k l = absurd (omega arith)

@@ -1,4 +1,4 @@
--- A turn of the walk: what is left of the text is a text where it is one behind its first character, or behind ASCII octets.
+-- A turn of the walk: what is left of the text is a text where it is one behind its first character.
 -- Assumes nothing.
 use mathlib.Core.Bool.{Bool, true, false, _&&_, cond}
 use mathlib.Core.List.{List, [], _∷_}
@@ -6,10 +6,9 @@ use mathlib.Core.Path.{_≡_, refl, sym, ap, _∙_}
 use Prim.Native.Nat.{ℕ, zero, suc, _+_, _≤_, _<_}
 use native.Mathlib.Nat.{le-of-suc-le-suc}
 use native.Mathlib.Omega.{arith}
-use lib.ListN.{length, drop, replicate, length-drop, drop-of-length-le}
+use lib.ListN.{length, drop, length-drop, drop-of-length-le}
 use lib.Seq.{drop-drop}
 use Rattle.text.specs.Utf8.{Bytes, Range, inside, rows, starts, charLength, past, octets, text}
-use Rattle.text.specs.Steps.{plain}
 
 -- the octets of the ranges that a text begins with are there
 starts-fits : (rs : List Range) (s : Bytes) → starts rs s ≡ true → length rs ≤ length s
@@ -71,20 +70,3 @@ refused s i l e h = sym (h ∙ none (drop i s) (omega (arith, length-drop i s)) 
 pub over : (s : Bytes) (i : ℕ) → length s ≤ i → text s ≡ octets 0 (drop i s) → true ≡ text s
 unfolding octets
 over s i l h = sym (h ∙ ap (λ (u : Bytes). octets 0 u) (drop-of-length-le s l))
-
--- behind ASCII octets
-plains : (n : ℕ) (s : Bytes) → starts (replicate n plain) s ≡ true → octets 0 s ≡ octets 0 (drop n s)
-unfolding starts octets charLength
-plains zero s e = refl
-plains (suc n) [] e = absurd (let z : _≡_ {A = ℕ} 0 1 = cc in omega arith)
-plains (suc n) (b ∷ s) e = pick (inside plain b) refl (plains n s) e
-  where
-    pick : (i : Bool) → inside plain b ≡ i → (starts (replicate n plain) s ≡ true → octets 0 s ≡ octets 0 (drop n s))
-        → (i && starts (replicate n plain) s) ≡ true → octets 0 (b ∷ s) ≡ octets 0 (drop n s)
-    pick true z f h = rw z (f h)
-    pick false z f h = absurd (let y : _≡_ {A = ℕ} 0 1 = cc in omega arith)
-
--- a turn of the loop at ASCII octets
-pub plain-turn : (s : Bytes) (i n : ℕ) → starts (replicate n plain) (drop i s) ≡ true → text s ≡ octets 0 (drop i s)
-    → text s ≡ octets 0 (drop (i + n) s)
-plain-turn s i n e h = h ∙ plains n (drop i s) e ∙ ap (λ (u : Bytes). octets 0 u) (drop-drop n i s)

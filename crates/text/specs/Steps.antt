@@ -3,11 +3,7 @@
 use mathlib.Core.List.{[]}
 use Prim.Native.Nat.{ℕ}
 use lib.ListN.{getD}
-use Rattle.text.specs.Utf8.{Range, to, tail, rows}
-
--- UTF8-1, without the zero byte
-abbrev pub plain : Range
-plain = to 0x01 0x7F
+use Rattle.text.specs.Utf8.{Range, tail, rows}
 
 -- the second range of the row that the class `lead` begins
 unfoldable pub secondOf : ℕ → Range

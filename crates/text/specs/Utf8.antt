@@ -1,4 +1,4 @@
--- Valid text (01, refusal 2): RFC 3629, section 4, "Syntax of UTF-8 Byte Sequences", without the zero byte.
+-- Valid text (01, refusal 2): RFC 3629, section 4 (syntax of UTF-8 byte sequences), without the zero byte.
 -- Assumes nothing.
 use mathlib.Core.Bool.{Bool, true, false, _&&_, _||_, cond}
 use mathlib.Core.List.{List, [], _∷_, _++_}

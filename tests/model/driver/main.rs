@@ -2,6 +2,7 @@
 //!
 //!   driver gen KIND SEED JOBS CALLS   random jobs, as job lines (below), to standard output
 //!   driver run FILE                   one JSON line for each line of FILE
+//!   driver raw FILE                   the same of the Rust alone: nothing below is added, and its error or panic is given in words
 //!
 //! A job: `job ID MOST ROOM`, then a call a line: its word, its texts as `x` and hex, its numbers.
 //! Refusals are 01's numbers. 5, 7 to 13 are the Rust's own (by kind and message of the error; a panic of the link at `/` is 5, an
@@ -112,6 +113,7 @@ struct Reply {
   rows: Vec<Stat>,
   links: u64,
   how: &'static str, // who says so: rust, panic or driver
+  said: String,      // the Rust's kind and message, or its panic
 }
 
 fn json_times(t: &[i128; 4]) -> String {
@@ -126,8 +128,8 @@ impl Reply {
   fn json(&self) -> String {
     let rows: Vec<_> = self.rows.iter().map(json_stat).collect();
     format!(
-      "\"r\":{},\"number\":{},\"out\":\"{}\",\"rows\":[{}],\"links\":{},\"how\":\"{}\"",
-      self.refusal, self.number, hex(&self.out), rows.join(","), self.links, self.how
+      "\"r\":{},\"number\":{},\"out\":\"{}\",\"rows\":[{}],\"links\":{},\"how\":\"{}\",\"said\":\"{}\"",
+      self.refusal, self.number, hex(&self.out), rows.join(","), self.links, self.how, hex(self.said.as_bytes())
     )
   }
 }
@@ -450,6 +452,25 @@ impl Machine {
     }
   }
 
+  /// The Rust's own answer, with no refusal of 01 added.
+  fn perform_raw(&mut self, c: &Call) -> Reply {
+    match catch_unwind(AssertUnwindSafe(|| self.act(c))) {
+      Ok(Ok(mut r)) => {
+        r.how = "rust";
+        r
+      }
+      Ok(Err(e)) => {
+        let mut r = refused(classify(&c.op, &e), "rust");
+        r.said = format!("{:?}: {e}", e.kind());
+        r
+      }
+      Err(p) => {
+        let said = p.downcast_ref::<&str>().map(|s| s.to_string()).or(p.downcast_ref::<String>().cloned()).unwrap_or_default();
+        Reply { said, ..refused(99, "panic") }
+      }
+    }
+  }
+
   fn again(&mut self) {
     self.sys = InMemorySys::default();
     self.files.clear();
@@ -589,7 +610,7 @@ fn main() {
       println!("{{\"job\":\"{}\",\"most\":{},\"room\":{}}}", f[0], m.most, m.room);
     } else {
       let c = Call::parse(l);
-      let r = m.perform(&c);
+      let r = if args[1] == "raw" { m.perform_raw(&c) } else { m.perform(&c) };
       println!("{{\"call\":\"{}\",{},\"state\":{}}}", c.line(), r.json(), m.state().json());
     }
   }

@@ -7,10 +7,10 @@ use lib.ListN.{length}
 use borrow.Author.Needs.{needs}
 use borrow.Author.Tests.{not-true, not-false}
 use Rattle.lawful.specs.Parts.{Kept}
-use Rattle.entries.specs.Fits.{kindIn}
+use Rattle.lawful_entries.specs.Fits.{kindIn}
 use Rattle.lawful.proofs.Slotting.{rows-within, kept-stand}
 use Rattle.lawful.proofs.Whole.{parts-space, parts-entries, parts-kept, parts-slots}
-use Rattle.limits.proofs.Settling.{told}
+use Rattle.lawful_limits.proofs.Settling.{told}
 use Rattle.lawful.proofs.parts_ok.Statement.{statement}
 use Rattle.lawful.proofs.parts_ok.Tie as tie
 

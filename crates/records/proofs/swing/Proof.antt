@@ -2,7 +2,7 @@
 use mathlib.Core.Path.{_∙_}
 use Prim.Native.Nat.{_+_}
 use native.Mathlib.Omega.{arith}
-use Rattle.turns.specs.Turn.{turned}
+use Rattle.blocks.specs.Turn.{turned}
 use Rattle.records.proofs.Entries.{total-up, total-sum}
 use borrow.Author.Needs.{needs}
 use Rattle.records.proofs.swing.Statement.{statement}

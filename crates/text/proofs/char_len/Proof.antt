@@ -23,9 +23,6 @@ yes {r} e h = sym e ∙ not-false r h
 no : {r x : Bool} → r ≡ x → not r ≡ true → x ≡ false
 no {r} e h = sym e ∙ not-true r h
 
-class-at-requires : tie.Need-class-at-requires
-class-at-requires c κs = search needs
-
 -- the length by the class read
 by-class : (c : tie.After-class-at) → let a = c .before .before .args in
     charLength rows (drop (a .i) (a .s .now))
@@ -54,12 +51,6 @@ by-second c =
     let lead = c .before .before .class-at .result in
     rw (ne-eqb lead 0 (c .before .if1 .left), le-ltb 8 lead (c .if2 .left)) at (by-class (c .before .before))
 
-add-second-at : tie.Need-add-second-at
-add-second-at c = search needs
-
-second-at-requires : tie.Need-second-at-requires
-second-at-requires c κs = search needs
-
 returns-3 : tie.Need-returns-3
 returns-3 c = sym (rw (no (c .before .second-at .ensures) (c .if3 .taken)) at (by-second (c .before .before)))
 
@@ -79,12 +70,6 @@ by-third c =
     rw (yes (c .before .before .second-at .ensures) (c .before .if3 .left), ne-eqb lead 1 (c .if4 .left))
     at (by-second (c .before .before .before))
 
-add-tail-at : tie.Need-add-tail-at
-add-tail-at c = search needs
-
-tail-at-requires : tie.Need-tail-at-requires
-tail-at-requires c κs = search needs
-
 returns-5 : tie.Need-returns-5
 returns-5 c = sym (rw (no (c .before .tail-at .ensures) (c .if5 .taken)) at (by-third (c .before .before)))
 
@@ -101,12 +86,6 @@ by-fourth c =
     rw (yes (c .before .before .tail-at .ensures) (c .before .if5 .left), le-ltb lead 6 (c .if6 .left))
     at (by-third (c .before .before .before))
 
-add-tail-at-2 : tie.Need-add-tail-at-2
-add-tail-at-2 c = search needs
-
-tail-at-requires-2 : tie.Need-tail-at-requires-2
-tail-at-requires-2 c κs = search needs
-
 returns-7 : tie.Need-returns-7
 returns-7 c = sym (by-fourth (c .before .before) ∙ ap (λ (t : Bool). cond {A = ℕ} t 4 0) (no (c .before .tail-at2 .ensures) (c .if7 .taken)))
 
@@ -115,20 +94,6 @@ returns-8 c = sym (by-fourth (c .before .before) ∙ ap (λ (t : Bool). cond {A 
 
 pub char-len-spec : {M : Type 1} → statement M
 char-len-spec =
-    tie.close
-    (tie.spec
-    class-at-requires
-    returns
-    returns-2
-    add-second-at
-    second-at-requires
-    returns-3
-    returns-4
-    add-tail-at
-    tail-at-requires
-    returns-5
-    returns-6
-    add-tail-at-2
-    tail-at-requires-2
-    returns-7
-    returns-8)
+    tie.close (tie.spec
+    (λ c κs. search needs) returns returns-2 (λ c. search needs) (λ c κs. search needs) returns-3 returns-4 (λ c. search needs)
+    (λ c κs. search needs) returns-5 returns-6 (λ c. search needs) (λ c κs. search needs) returns-7 returns-8)

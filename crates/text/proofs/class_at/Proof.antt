@@ -8,9 +8,6 @@ use borrow.Author.Needs.{needs}
 use Rattle.text.proofs.class_at.Statement.{statement}
 use Rattle.text.proofs.class_at.Tie as tie
 
-shared-slice-read-result : tie.Need-shared-slice-read-result
-shared-slice-read-result c = search needs
-
 -- the octet read is a byte
 byte : (c : tie.After-shared-slice-known) → getD (c .before .args .s .now) (c .before .args .at) 0 < 256
 byte c = omega (arith, c .shared-slice-known .given (c .before .args .at))
@@ -26,4 +23,5 @@ returns c = rw (c .before .before .pre .0) (table-at (getD (c .before .before .a
 
 pub class-at-spec : {M : Type 1} → statement M
 class-at-spec =
-    tie.close (tie.spec shared-slice-read-result cast-result element-copy-out-result returns)
+    tie.close (tie.spec
+    (λ c. search needs) cast-result element-copy-out-result returns)

@@ -23,9 +23,6 @@ returns c =
     let a = c .before .before .args in
     sym (ap (λ (u : Bytes). starts (secondOf (a .lead) ∷ []) u) (drop-of-length-le (a .s .now) {i = a .at} (omega arith)))
 
-class-at-requires : tie.Need-class-at-requires
-class-at-requires c κs = search needs
-
 -- the answer by the class read
 by-class : (c : tie.After-class-at) → let a = c .before .before .before .args in
     (leb (classOf (secondOf (a .lead) .low)) (c .class-at .result) && leb (c .class-at .result) (classOf (secondOf (a .lead) .high)))
@@ -37,17 +34,11 @@ by-class c =
     (omega (arith, c .before .before .shared-slice-known .given (a .args .at)))
     (a .pre .1))
 
-second-low-requires : tie.Need-second-low-requires
-second-low-requires c κs = search needs
-
 returns-2 : tie.Need-returns-2
 returns-2 c =
     let low = classOf (secondOf (c .before .before .before .before .before .args .lead) .low) in
     let below : c .before .before .class-at .result < low = omega (arith, c .before .second-low .ensures) in
     rw (lt-leb low (c .before .before .class-at .result) below) at (by-class (c .before .before))
-
-second-high-requires : tie.Need-second-high-requires
-second-high-requires c κs = search needs
 
 returns-3 : tie.Need-returns-3
 returns-3 c =
@@ -57,11 +48,5 @@ returns-3 c =
 
 pub second-at-spec : {M : Type 1} → statement M
 second-at-spec =
-    tie.close
-    (tie.spec
-    returns
-    class-at-requires
-    second-low-requires
-    returns-2
-    second-high-requires
-    returns-3)
+    tie.close (tie.spec
+    returns (λ c κs. search needs) (λ c κs. search needs) returns-2 (λ c κs. search needs) returns-3)

@@ -5,7 +5,7 @@ use Prim.Native.Nat.{_+_, _-_, _*_}
 use borrow.Author.Needs.{needs}
 use borrow.Author.Tests.{le-leb, lt-leb}
 use Rattle.layout.specs.Lawful.{cellOk}
-use Rattle.entries.proofs.Looking.{part-name}
+use Rattle.lawful_entries.proofs.Looking.{part-name}
 use borrow.Author.Needs.{needs}
 use Rattle.lawful.proofs.cells.cell_ok.Statement.{statement}
 use Rattle.lawful.proofs.cells.cell_ok.Tie as tie

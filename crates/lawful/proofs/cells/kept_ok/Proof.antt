@@ -6,7 +6,7 @@ use borrow.Author.Needs.{needs}
 use borrow.Author.Tests.{not-true, not-false}
 use Rattle.lawful.specs.Parts.{numberIn}
 use Rattle.lawful.proofs.Slotting.{kept-here}
-use Rattle.limits.proofs.Settling.{told}
+use Rattle.lawful_limits.proofs.Settling.{told}
 use Rattle.lawful.proofs.cells.kept_ok.Statement.{statement}
 use Rattle.lawful.proofs.cells.kept_ok.Tie as tie
 

@@ -4,7 +4,7 @@ use mathlib.Core.Path.{sym, _∙_}
 use lib.ListN.{length}
 use borrow.Author.Needs.{needs}
 use borrow.Author.Tests.{le-leb, lt-leb}
-use Rattle.entries.proofs.Walking.{form-ok, form-bad}
+use Rattle.lawful_entries.proofs.Walking.{form-ok, form-bad}
 use borrow.Author.Needs.{needs}
 use Rattle.lawful.proofs.cells.piece_ok.Statement.{statement}
 use Rattle.lawful.proofs.cells.piece_ok.Tie as tie

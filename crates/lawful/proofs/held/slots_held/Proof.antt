@@ -3,8 +3,8 @@
 use mathlib.Core.Path.{subst}
 use borrow.Author.Needs.{needs}
 use borrow.Author.Tests.{not-true, not-false}
-use Rattle.limits.specs.Settles.{Settles}
-use Rattle.marks.specs.Uses.{SlotsRight}
+use Rattle.lawful_limits.specs.Settles.{Settles}
+use Rattle.lawful_slots.specs.Uses.{SlotsRight}
 use Rattle.lawful.proofs.Slotting.{held-bad, held-links}
 use borrow.Author.Needs.{needs}
 use Rattle.lawful.proofs.held.slots_held.Statement.{statement}

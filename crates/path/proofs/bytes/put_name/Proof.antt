@@ -17,30 +17,12 @@ Inv-loop out₀ at n j₀ out j = (out ≡ paste out₀ (at + 1) n j) × (j ≤ 
 abbrev μ-loop : tie.MeasureT-loop
 μ-loop out₀ at n j₀ out j = length n - j
 
-slice-write-out : tie.Need-slice-write-out Inv-loop μ-loop
-slice-write-out c = search needs
-
 loop-holds : tie.Need-loop-holds Inv-loop μ-loop
 loop-holds c = let a = c .args in
     (paste-zero (set (a .out .now) (a .at) 47) (a .at + 1) (a .n .now), zero-le, refl)
 
-shared-slice-read-out : tie.Need-shared-slice-read-out Inv-loop μ-loop
-shared-slice-read-out c = search needs
-
-add-out : tie.Need-add-out Inv-loop μ-loop
-add-out c = search needs
-
-add-out-2 : tie.Need-add-out-2 Inv-loop μ-loop
-add-out-2 c = search needs
-
 slice-write-out-2 : tie.Need-slice-write-out-2 Inv-loop μ-loop
 slice-write-out-2 c = omega (arith, simp length-set at (c .before .before .loop .inv .2))
-
-add-j : tie.Need-add-j Inv-loop μ-loop
-add-j c = search needs
-
-loop-less : tie.Need-loop-less Inv-loop μ-loop
-loop-less c = search needs
 
 loop-again : tie.Need-loop-again Inv-loop μ-loop
 loop-again c = let l = c .before .before .loop in
@@ -64,18 +46,6 @@ returns c = let l = c .before .loop in
 
 pub put-name-spec : {M : Type 1} → statement M
 put-name-spec =
-    tie.close
-    (tie.spec
-    Inv-loop
-    μ-loop
-    slice-write-out
-    loop-holds
-    shared-slice-read-out
-    add-out
-    add-out-2
-    slice-write-out-2
-    add-j
-    loop-less
-    loop-again
-    same-length
-    returns)
+    tie.close (tie.spec
+    Inv-loop μ-loop (λ c. search needs) loop-holds (λ c. search needs) (λ c. search needs) (λ c. search needs) slice-write-out-2
+    (λ c. search needs) (λ c. search needs) loop-again same-length returns)

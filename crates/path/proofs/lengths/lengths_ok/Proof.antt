@@ -19,20 +19,8 @@ returns c = too-long _ (c .if1 .taken)
 loop-holds : tie.Need-loop-holds Inv-loop μ-loop
 loop-holds c = (omega arith, rest-whole _)
 
-sub-loop : tie.Need-sub-loop Inv-loop μ-loop
-sub-loop c = search needs
-
-add-piece-start : tie.Need-add-piece-start Inv-loop μ-loop
-add-piece-start c = search needs
-
-piece-start-requires : tie.Need-piece-start-requires Inv-loop μ-loop
-piece-start-requires c κs = search needs
-
 returns-2 : tie.Need-returns-2 Inv-loop μ-loop
 returns-2 c = let l = c .before .before .before .loop in rest-long _ (l .i) (l .inv .1) _ (omega arith) (omega arith) (c .if2 .taken) (c .before .piece-start .ensures)
-
-loop-less : tie.Need-loop-less Inv-loop μ-loop
-loop-less c = search needs
 
 loop-again : tie.Need-loop-again Inv-loop μ-loop
 loop-again c = let l = c .before .before .before .loop in let p = c .before .piece-start .ensures in
@@ -43,16 +31,6 @@ returns-3 c = let l = c .before .loop in rest-short _ (l .i) (l .inv .1) (omega 
 
 pub lengths-ok-spec : {M : Type 1} → statement M
 lengths-ok-spec =
-    tie.close
-    (tie.spec
-    Inv-loop
-    μ-loop
-    returns
-    loop-holds
-    sub-loop
-    add-piece-start
-    piece-start-requires
-    returns-2
-    loop-less
-    loop-again
-    returns-3)
+    tie.close (tie.spec
+    Inv-loop μ-loop returns loop-holds (λ c. search needs) (λ c. search needs) (λ c κs. search needs) returns-2 (λ c. search needs)
+    loop-again returns-3)

@@ -12,17 +12,11 @@ returns c = sym (kind-long _ _ (c .if1 .taken))
 returns-2 : tie.Need-returns-2
 returns-2 c = sym (kind-none _ _ (c .if2 .taken))
 
-shared-slice-read-if3 : tie.Need-shared-slice-read-if3
-shared-slice-read-if3 c = search needs
-
 returns-3 : tie.Need-returns-3
 returns-3 c = sym (kind-other _ _ (omega arith) (c .if3 .taken))
 
 returns-4 : tie.Need-returns-4
 returns-4 c = sym (kind-dot _ _ (c .if4 .taken) (c .before .if3 .left))
-
-shared-slice-read-if5 : tie.Need-shared-slice-read-if5
-shared-slice-read-if5 c = search needs
 
 returns-5 : tie.Need-returns-5
 returns-5 c = sym (kind-two _ _ (omega arith) (c .if5 .taken))
@@ -35,14 +29,5 @@ returns-7 c = sym (kind-named _ _ (omega arith) (c .before .before .before .befo
 
 pub kind-of-spec : {M : Type 1} → statement M
 kind-of-spec =
-    tie.close
-    (tie.spec
-    returns
-    returns-2
-    shared-slice-read-if3
-    returns-3
-    returns-4
-    shared-slice-read-if5
-    returns-5
-    returns-6
-    returns-7)
+    tie.close (tie.spec
+    returns returns-2 (λ c. search needs) returns-3 returns-4 (λ c. search needs) returns-5 returns-6 returns-7)

@@ -1,5 +1,5 @@
 -- `pieces::piece_start` meets its contract. The loop's invariant: no slash from a to e.
-use Prim.Native.Nat.{_≤_, _-_, zero-le}
+use Prim.Native.Nat.{_≤_, zero-le}
 use mathlib.Core.Path.{_≡_}
 use native.Mathlib.Omega.{arith}
 use Rattle.path.specs.Backward.{part}
@@ -16,23 +16,11 @@ abbrev μ-loop : tie.MeasureT-loop
 loop-holds : tie.Need-loop-holds Inv-loop μ-loop
 loop-holds c = (omega arith, rw part-empty tt)
 
-sub-if1 : tie.Need-sub-if1 Inv-loop μ-loop
-sub-if1 c = omega arith
-
-shared-slice-read-if1 : tie.Need-shared-slice-read-if1 Inv-loop μ-loop
-shared-slice-read-if1 c = omega arith
-
 returns : tie.Need-returns Inv-loop μ-loop
 returns c = let f = c .before .before .before in
     let s = f .before .args .s .now in
     let e = f .before .args .e in
     piece-is s (f .loop .a) e (f .loop .inv .0) (f .before .pre) (f .loop .inv .1) (λ _. c .if1 .taken)
-
-sub-a : tie.Need-sub-a Inv-loop μ-loop
-sub-a c = omega arith
-
-loop-less : tie.Need-loop-less Inv-loop μ-loop
-loop-less c = omega arith
 
 loop-again : tie.Need-loop-again Inv-loop μ-loop
 loop-again c = let f = c .before .before .before in
@@ -50,15 +38,6 @@ returns-2 c = let f = c .before in
 
 pub piece-start-spec : {M : Type 1} → statement M
 piece-start-spec =
-    tie.close
-    (tie.spec
-    Inv-loop
-    μ-loop
-    loop-holds
-    sub-if1
-    shared-slice-read-if1
-    returns
-    sub-a
-    loop-less
-    loop-again
+    tie.close (tie.spec
+    Inv-loop μ-loop loop-holds (λ c. omega arith) (λ c. omega arith) returns (λ c. omega arith) (λ c. omega arith) loop-again
     returns-2)

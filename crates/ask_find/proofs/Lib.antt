@@ -1,0 +1,9 @@
+pub mod Blocks
+pub mod Children
+pub mod Finding
+pub mod Instead
+pub mod Places
+pub mod Reading
+pub mod Records
+pub mod Scan
+pub mod Spans

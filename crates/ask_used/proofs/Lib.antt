@@ -1,0 +1,5 @@
+pub mod Marked
+pub mod Sums
+pub mod Totals
+pub mod Used
+pub mod Weighing

@@ -1,0 +1,44 @@
+-- `blocks::open_words` meets its contract. Assumes nothing.
+use mathlib.Core.Path.{_≡_, _∙_, ap, refl}
+use Prim.Native.Nat.{ℕ, _+_, _-_, _≤_}
+use native.Mathlib.Nat.{le-refl, sub-self}
+use native.Mathlib.Omega.{arith}
+use lib.ListN.{length, length-set}
+use Rattle.blocks.specs.Gap.{moved}
+use Rattle.blocks.proofs.Laws.{moved-none, moved-same, open-turn}
+use Rattle.blocks.proofs.open_words.Statement.{statement}
+use Rattle.blocks.proofs.open_words.Tie as tie
+
+abbrev Inv-loop : tie.InvT-loop
+Inv-loop s₀ used at n i₀ s i = (at ≤ i) × (i ≤ used) × (length s ≡ length s₀) × (s ≡ moved s₀ i (i + n) (used - i))
+
+abbrev μ-loop : tie.MeasureT-loop
+μ-loop s₀ used at n i₀ s i = i
+
+returns : tie.Need-returns Inv-loop μ-loop
+returns c = moved-same (c .before .args .s .now) (c .before .args .at) (c .before .args .at + c .before .args .n) (c .before .args .used - c .before .args .at) (omega arith)
+
+loop-holds : tie.Need-loop-holds Inv-loop μ-loop
+loop-holds c = (omega arith, le-refl _, refl, rw sub-self (moved-none _ _ _))
+
+loop-again : tie.Need-loop-again Inv-loop μ-loop
+loop-again c =
+    let l = c .before .before .loop in
+    let a = c .before .before .before .before .args in
+    (omega arith, omega arith, simp length-set (l .inv .2), open-turn (a .s .now) (l .s) (l .i) (a .n) (a .used) (omega arith) (l .inv .1) (omega arith) (l .inv .3))
+
+same-length : tie.Need-same-length Inv-loop μ-loop
+same-length c = c .before .loop .inv .2
+
+returns-2 : tie.Need-returns-2 Inv-loop μ-loop
+returns-2 c =
+    let l = c .before .loop in
+    let a = c .before .before .before .args in
+    let e : l .i ≡ a .at = omega arith in
+    l .inv .3 ∙ ap (λ (j : ℕ). moved (a .s .now) j (j + a .n) (a .used - j)) e
+
+pub open-words-spec : {M : Type 1} → statement M
+open-words-spec =
+    tie.close (tie.spec
+    Inv-loop μ-loop returns loop-holds (λ c. omega arith) (λ c. omega arith) (λ c. omega arith) (λ c. omega arith) (λ c. omega arith)
+    (λ c. omega arith) (λ c. omega arith) loop-again same-length returns-2)

@@ -1,0 +1,10 @@
+pub mod Carriage
+pub mod Clearing
+pub mod Filling
+pub mod Growth
+pub mod Insertion
+pub mod Movement
+pub mod Nesting
+pub mod Removal
+pub mod Renaming
+pub mod Shrinkage

@@ -1,0 +1,4 @@
+pub mod Cells
+pub mod Setting
+pub mod Opening
+pub mod Closing

@@ -1,3 +1,0 @@
-pub mod Finds
-pub mod Totals
-pub mod Paths

@@ -1,0 +1,14 @@
+pub mod Blocked
+pub mod Carrying
+pub mod Deepening
+pub mod Frames
+pub mod Inserting
+pub mod Gaps
+pub mod Moving
+pub mod Nesting
+pub mod Numbers
+pub mod Parted
+pub mod Removing
+pub mod Shapes
+pub mod Taking
+pub mod Telling

@@ -1,0 +1,17 @@
+pub mod Byted
+pub mod Sorting
+pub mod Ordered
+pub mod Spelling
+pub mod Tracing
+pub mod Items
+pub mod Housing
+pub mod Listed
+pub mod Fitting
+pub mod Written
+pub mod Stored
+pub mod Placing
+pub mod Slotting
+pub mod Lawing
+pub mod Sizing
+pub mod Everything
+pub mod Passed

@@ -1,6 +1,0 @@
-pub mod Bare
-pub mod Children
-pub mod Ordered
-pub mod Steps
-pub mod Texts
-pub mod Words

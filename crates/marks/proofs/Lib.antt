@@ -1,5 +1,0 @@
-pub mod ByKind
-pub mod Counting
-pub mod Filled
-pub mod Rowed
-pub mod Taking

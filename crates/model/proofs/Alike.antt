@@ -1,0 +1,3 @@
+-- States that no call tells apart.
+pub mod States
+pub mod Runs

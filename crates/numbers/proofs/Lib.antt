@@ -1,5 +1,0 @@
-pub mod Cells
-pub mod Setting
-pub mod Opening
-pub mod Seeking
-pub mod Closing

@@ -1,1 +1,0 @@
-// Every state that obeys the rules is the state of some store (proofs/): no code.

@@ -1,3 +1,0 @@
-pub mod Marked
-pub mod Sums
-pub mod Used
