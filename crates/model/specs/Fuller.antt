@@ -133,15 +133,15 @@ forSpace (accepted r) = false
 forSpace (refusal n) = eqb n noEntries || eqb n noBytes
 
 -- a call that is not refused before its program
-abbrev pub passes : ℕ → Bool → Bool
-passes zero b = b
-passes (suc n) b = false
+abbrev pub unlessScreened : ℕ → Bool → Bool
+unlessScreened zero b = b
+unlessScreened (suc n) b = false
 
 -- a call that is left out: its program as the first run has it asks such a question, or it is refused for space in the first run.
 -- What is refused before its program asks nothing
 unfoldable pub excepted : Call → State → State → Bool
 excepted c s u =
-    passes (screen (c .work) (givenTo (c .op)) (s .opens))
+    unlessScreened (screen (c .work) (givenTo (c .op)) (s .opens))
     (excepts (program (linksIn (s .tree)) (c .op)) (worldOf s) (worldOf u) || forSpace (perform c s .result))
 
 -- no call of the list is left out

@@ -116,7 +116,7 @@ none-more w v r p =
     go [] h = refl
     go (e ∷ l) h = rw (h .0 .1) (go l (h .1))
 
-even-asked : (q : Ask) (w v : World) → Even w v → answer q w ≡ answer q v
+pub even-asked : (q : Ask) (w v : World) → Even w v → answer q w ≡ answer q v
 unfolding exceptsAsk
 even-asked q w v e = asked w v (e .over) (e .tidy .tree) (e .tidyToo .tree) (e .set .here) (e .set .mask) q (at q)
   where

@@ -16,7 +16,7 @@ use Rattle.model.specs.Operations.{Reply, isSome}
 use Rattle.model.specs.Calls.{State, Op, Work, Call, entriesUsed, bytesUsed, keptFiles, Given, givenTo, Number, noNumber, free, opened, workFits, numberFits, all, firstOf, screen, program, worldOf, stateOf, accepted, refusal, Outcome, settleBy, settle, decideBy, performWith, perform, afterJob}
 use Rattle.model.specs.Rules.{Obeys}
 use Rattle.model.specs.Passable.{PassableJob}
-use Rattle.model.specs.Fuller.{freeEntries, freeBytes, Fuller, exceptsAsk, excepts, forSpace, passes, excepted, quiet, resultAfter}
+use Rattle.model.specs.Fuller.{freeEntries, freeBytes, Fuller, exceptsAsk, excepts, forSpace, unlessScreened, excepted, quiet, resultAfter}
 use Rattle.model.proofs.Demand.Asking.{asked}
 use Rattle.model.proofs.Demand.Bounds.{any-bound, same-exceptions}
 use Rattle.model.proofs.Demand.Contents.{weigh, weigh-le, kept-weigh, onlySecond, only-at, at-only}
@@ -344,7 +344,7 @@ call-alike c s u j e = at (screen (c .work) (givenTo (c .op)) (s .opens)) refl (
     first = settle s (run (program (linksIn (s .tree)) (c .op)) (worldOf s))
 
     at : (n : ℕ) → screen (c .work) (givenTo (c .op)) (s .opens) ≡ n → screen (c .work) (givenTo (c .op)) (s .opens) ≡ screen (c .work) (givenTo (c .op)) (u .opens)
-        → passes (screen (c .work) (givenTo (c .op)) (s .opens)) (excepts (program (linksIn (s .tree)) (c .op)) (worldOf s) (worldOf u) || forSpace (decideBy (screen (c .work) (givenTo (c .op)) (s .opens)) s first .result)) ≡ false
+        → unlessScreened (screen (c .work) (givenTo (c .op)) (s .opens)) (excepts (program (linksIn (s .tree)) (c .op)) (worldOf s) (worldOf u) || forSpace (decideBy (screen (c .work) (givenTo (c .op)) (s .opens)) s first .result)) ≡ false
         → Alikely (decideBy (screen (c .work) (givenTo (c .op)) (s .opens)) s first)
         (decideBy (screen (c .work) (givenTo (c .op)) (u .opens)) u (settle u (run (program (linksIn (u .tree)) (c .op)) (worldOf u))))
     at (suc n) k l z = rw (← l, k) (refl, j)
