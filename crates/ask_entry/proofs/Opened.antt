@@ -71,7 +71,7 @@ module _ (st : Store) (l : Lawful st) (n : ℕ) (h : n < 32) where
 abbrev pub wordOf : List ℕ → ℕ → ℕ → ℕ
 wordOf ws n i = cond (ltb n 32) (getD ws (i + 3 * n) 0) 0
 
-word-low : (ws : List ℕ) (n i : ℕ) → n < 32 → wordOf ws n i ≡ getD ws (i + 3 * n) 0
+pub word-low : (ws : List ℕ) (n i : ℕ) → n < 32 → wordOf ws n i ≡ getD ws (i + 3 * n) 0
 word-low ws n i h = ap (λ (b : Bool). cond b (getD ws (i + 3 * n) 0) 0) (lt-ltb n 32 h)
 
 word-high : (ws : List ℕ) (n i : ℕ) → (wordOf ws n i ≡ 0 → ⊥) → n < 32

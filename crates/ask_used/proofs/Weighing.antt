@@ -14,17 +14,18 @@ use Rattle.text.specs.Utf8.{Bytes}
 use Rattle.path.specs.Path.{names}
 use Rattle.model.specs.Tree.{Path, Meta, File, Node, dir, file, link, Open, keepIf, look, fileOf, nameLength}
 use Rattle.model.specs.Calls.States.{isHeld}
-use Rattle.model.proofs.Entries.{some-inj}
+use Rattle.model.specs.Space.{sizeOf, freedBy}
+use Rattle.model.proofs.Entries.{some-inj, is-false}
 use Rattle.model.proofs.Demand.Spacing.{last-name}
 use Rattle.layout.specs.Fields.{nlenOf, slotOf, lenOf}
 use Rattle.layout.specs.Rows.{Row, nameTotal, pathBy}
-use Rattle.layout.specs.Store.{Store, lent, count, live, rowsOf, holder, position, keptLength, cell, metaAt, bytesAt, kindAt, nodeAt, opensFrom, state}
+use Rattle.layout.specs.Store.{Store, lent, count, live, rowsOf, holder, position, keptLength, cell, metaAt, bytesAt, kindAt, nodeBy, nodeAt, opensFrom, state}
 use Rattle.layout.specs.Lawful.{walkOk, rowsOk, heldFrom, Lawful}
 use Rattle.layout.specs.Parts.{pathAfter, dirAfter}
 use Rattle.layout.proofs.Named.{total-split}
 use Rattle.layout.proofs.Roots.{root-of}
-use Rattle.layout.proofs.Slotted.{bytes-length}
-use Rattle.layout.proofs.Entered.{has-file}
+use Rattle.layout.proofs.Slotted.{SlotOf, free, directory, named, removed, target, dir-at, file-at, bytes-length}
+use Rattle.layout.proofs.Entered.{slot, has-file}
 use Rattle.layout.proofs.Edited.Removing.{walk-follows}
 use Rattle.layout.proofs.Edited.Taking.{one-deep}
 use Rattle.ask_find.specs.declared.Spot.{Spot}
@@ -80,7 +81,7 @@ module _ (st : Store) (l : Lawful st) (s : Spot) (p : Path) (a : At st s p) wher
   word = getD (st .records) i 0
 
   -- its name is as long as the record says
-  name-long : length (rowAt st i .name) ≡ nlenOf word
+  pub name-long : length (rowAt st i .name) ≡ nlenOf word
   name-long =
       name-length (st .bytes) (nameTotal (take i (live st))) (nlenOf word)
       (omega (arith, total-split (live st) i, names-at (st .records) (count st) i (omega (arith, l .exact .records, l .counted)) (a .within), l .space, l .exact .bytes))
@@ -128,6 +129,33 @@ module _ (st : Store) (l : Lawful st) (s : Spot) (p : Path) (a : At st s p) wher
       go false true y = absurd (let w : _≡_ {A = ℕ} 0 1 = cc in omega arith)
       go false false y = cc
 
+  -- what goes with its node: a file's contents unless a number is open on it, which none is on another kind; a directory's slot is empty
+  freed-by : (z : ℕ) (h : Bool) → z ≡ lenOf (getD (st .heads) k 0) → h ≡ heldFrom st 32 0 k → cond h 0 z ≡ freedBy (state st .files) (state st .opens) (nodeAt st k)
+  unfolding freedBy sizeOf
+  freed-by z h f g = go (slot st l k (slot-low st l i (a .within)))
+    where
+      loose : (T (heldFrom st 32 0 k) → ⊥) → cond h 0 z ≡ z
+      loose w = ap (λ (b : Bool). cond b 0 z) (g ∙ is-false (heldFrom st 32 0 k) w)
+
+      linked : (n : ℕ) → kindAt st k ≡ n → nodeBy n k (metaAt st k) (bytesAt st k) ≡ link (metaAt st k) (bytesAt st k) → (T (heldFrom st 32 0 k) → ⊥)
+          → cond h 0 z ≡ freedBy (state st .files) (state st .opens) (nodeAt st k)
+      linked n e y w =
+          loose w ∙ f ∙ sym long
+          ∙ sym (ap (freedBy (state st .files) (state st .opens)) (ap (λ (m : ℕ). nodeBy m k (metaAt st k) (bytesAt st k)) e ∙ y))
+
+      filed : kindAt st k ≡ 2 → cond h 0 z ≡ freedBy (state st .files) (state st .opens) (nodeAt st k)
+      filed e =
+          let b : h ≡ isHeld (state st .opens) k = g ∙ sym (held-is st 32 0 k) in
+          let c : z ≡ sizeOf (fileOf (state st .files) k) = f ∙ sym long ∙ sym (ap sizeOf (has-file st l k (slot-low st l i (a .within)) e)) in
+          (λ j. cond (b j) 0 (c j)) ∙ sym (ap (freedBy (state st .files) (state st .opens)) (file-at st k e))
+
+      go : SlotOf st k → cond h 0 z ≡ freedBy (state st .files) (state st .opens) (nodeAt st k)
+      go (free e x y w) = linked 0 e refl w
+      go (directory e x y w) = loose w ∙ f ∙ x ∙ sym (ap (freedBy (state st .files) (state st .opens)) (dir-at st k e))
+      go (named e y) = filed e
+      go (removed e y t) = filed e
+      go (target e t y w) = linked 3 e refl w
+
   pub weight-is : (n z : ℕ) (h : Bool) → n ≡ nlenOf word → z ≡ lenOf (getD (st .heads) k 0) → h ≡ heldFrom st 32 0 k → WeightIs st p (record { name = n; size = z; held = h })
   weight-is n z h e f g =
       record {
@@ -138,6 +166,7 @@ module _ (st : Store) (l : Lawful st) (s : Spot) (p : Path) (a : At st s p) wher
             f ∙ sym long ∙ ap (λ (u : File). length (u .bytes)) v;
         target = λ m t x. f ∙ sym long ∙ ap length (link-is m t (found (link m t) x));
         held = λ j x. g ∙ sym (held-is st 32 0 k) ∙ ap (isHeld (state st .opens)) (file-is j (found (file j) x) .slot);
+        freed = λ m x. freed-by z h f g ∙ ap (freedBy (state st .files) (state st .opens)) (found m x);
       }
 
 -- ---- by the slices

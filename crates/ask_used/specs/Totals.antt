@@ -6,6 +6,7 @@ use mathlib.Core.Path.{_≡_}
 use Prim.Native.Nat.{ℕ, _+_, _≤_, _<_}
 use lib.Dec.{leb, eqb}
 use lib.ListN.{length, take, drop, getD}
+use Rattle.layout.specs.Numbers.{mostEntries}
 use Rattle.layout.specs.Fields.{depthOf, nlenOf, slotOf, lenOf, kindOf}
 use Rattle.layout.specs.Rows.{nameTotal}
 use Rattle.ask_find.specs.Spans.{pickN, span}
@@ -42,11 +43,11 @@ linkTotal hs (w ∷ ws) = cond (eqb (kindOf (headOf hs w)) 3) 1 0 + linkTotal hs
 
 -- they are there, and so are their slots; record i is one of them, or stands behind them
 abbrev pub Upto : List ℕ → List ℕ → ℕ → ℕ → Type 0
-Upto ws hs n i = (n ≤ length ws) × (n ≤ 4096) × (i ≤ n) × Slotted hs (take n ws)
+Upto ws hs n i = (n ≤ length ws) × (n ≤ mostEntries) × (i ≤ n) × Slotted hs (take n ws)
 
 -- record i is one of them
 abbrev pub Among : List ℕ → List ℕ → ℕ → ℕ → Type 0
-Among ws hs n i = (n ≤ length ws) × (n ≤ 4096) × (i < n) × Slotted hs (take n ws)
+Among ws hs n i = (n ≤ length ws) × (n ≤ mostEntries) × (i < n) × Slotted hs (take n ws)
 
 -- the bytes of the entry of record i with all below it
 abbrev pub wholeBytes : List ℕ → List ℕ → ℕ → ℕ → ℕ

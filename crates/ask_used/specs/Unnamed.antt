@@ -3,15 +3,16 @@
 use mathlib.Core.Bool.{cond}
 use mathlib.Core.List.{List}
 use mathlib.Core.Path.{_≡_}
-use Prim.Native.Nat.{ℕ, zero, suc, _+_, _*_, _<_}
+use Prim.Native.Nat.{ℕ, zero, suc, _+_, _<_}
 use lib.Dec.{eqb}
 use lib.ListN.{length, getD}
+use Rattle.layout.specs.Numbers.{fileNumbers, holderAt}
 use Rattle.layout.specs.Fields.{lenOf}
 use Rattle.slots.specs.Uses.{usesIn}
 
 -- every file number is closed: no file that is not named is still open
 abbrev pub AllClosed : List ℕ → Type 0
-AllClosed ws = (j : ℕ) → j < 32 → getD ws (5 + 3 * j) 0 ≡ 0
+AllClosed ws = (j : ℕ) → j < fileNumbers → getD ws (holderAt j) 0 ≡ 0
 
 -- the bytes of a slot, by how many records have it
 abbrev pub alone : (ℕ → ℕ) → List ℕ → ℕ → ℕ

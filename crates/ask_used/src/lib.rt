@@ -3,6 +3,7 @@ ghost use mathlib.Core.Bool.{true};
 ghost use mathlib.Core.Path.{_≡_};
 ghost use Prim.Native.Nat.{ℕ, _≤_, _<_};
 ghost use lib.ListN.{length, take};
+ghost use Rattle.layout.specs.Numbers.{extentAt, mostEntries, mostSlots};
 ghost use Rattle.layout.specs.Fields.{slotOf};
 ghost use Rattle.slots.specs.Uses.{Within, usesIn};
 ghost use Rattle.ask_used.specs.Totals.{entryBytes, Slotted, linkTotal, Upto, Among, treeBytes, TotalIs, WholeIs};
@@ -12,6 +13,7 @@ use ask_find::Spot;
 use layout::COUNT_AT;
 use layout::FILE_NUMBERS;
 use layout::HOLDER_AT;
+use layout::LENGTHS;
 use layout::MOST_SLOTS;
 use layout::NUMBER_WORDS;
 use layout::depth_of;
@@ -88,7 +90,7 @@ pub fn entry_total(records: &[u64], heads: &[u64], count: usize, i: usize) -> Su
 
 // The bytes of all entries, one after the other with all below it.
 fn tree_bytes(records: &[u64], heads: &[u64], count: usize) -> usize
-    requires { ⌜ (count ≤ length (now records)) × (count ≤ 4096) × Slotted (now heads) (take count (now records)) ⌝ }
+    requires { ⌜ (count ≤ length (now records)) × (count ≤ mostEntries) × Slotted (now heads) (take count (now records)) ⌝ }
     ensures { λ r. ⌜ r ≡ treeBytes (now (records .entry)) (now (heads .entry)) count ⌝ }
 {
     let mut k = 0;
@@ -120,13 +122,13 @@ fn link_count(records: &[u64], heads: &[u64], count: usize) -> usize
 
 // The bytes of the slots that no record has marked: removed files that are still open.
 fn unmarked(heads: &[u64], marks: &[u8; MOST_SLOTS]) -> usize
-    requires { ⌜ length (now heads) ≤ 4128 ⌝ }
+    requires { ⌜ length (now heads) ≤ mostSlots ⌝ }
     ensures { λ r. ⌜ r ≡ unmarkedBytes (now (marks .entry)) (now (heads .entry)) ⌝ }
 {
     let mut i = 0;
     let mut t: usize = 0;
     while i < heads.len() {
-        let n = (heads[i] % 16777216) as usize;
+        let n = (heads[i] % LENGTHS) as usize;
         let m = marks[i];
         i += 1;
         if m != 0 {
@@ -139,7 +141,7 @@ fn unmarked(heads: &[u64], marks: &[u8; MOST_SLOTS]) -> usize
 
 // "plus contents of removed files still open"
 fn removed_bytes(recs: &[u64], heads: &[u64]) -> usize
-    requires { ⌜ (length (now heads) ≤ 4128) × Within (length (now heads)) (now recs) × ((k : ℕ) → usesIn k (now recs) ≤ 1) ⌝ }
+    requires { ⌜ (length (now heads) ≤ mostSlots) × Within (length (now heads)) (now recs) × ((k : ℕ) → usesIn k (now recs) ≤ 1) ⌝ }
     ensures { λ r. ⌜ r ≡ unnamed (now (recs .entry)) (now (heads .entry)) ⌝ }
 {
     let mut marks = [0u8; MOST_SLOTS];
@@ -149,7 +151,7 @@ fn removed_bytes(recs: &[u64], heads: &[u64]) -> usize
 
 // Whether every file number is closed.
 fn none_open(words: &[u64]) -> bool
-    requires { ⌜ 101 ≤ length (now words) ⌝ }
+    requires { ⌜ extentAt ≤ length (now words) ⌝ }
     ensures { λ r. ⌜ (r ≡ true → AllClosed (now (words .entry))) ⌝ }
 {
     let mut j: usize = 0;
@@ -193,7 +195,7 @@ pub struct Weight {
 
 // Whether a file number stands on slot k.
 fn is_held(words: &[u64], k: usize) -> bool
-    requires { ⌜ (101 ≤ length (now words)) × (k < 1099511627776) ⌝ }
+    requires { ⌜ (extentAt ≤ length (now words)) × (k < 1099511627776) ⌝ }
     ensures { λ r. ⌜ r ≡ heldIn (now (words .entry)) k ⌝ }
 {
     let mut j: usize = 0;

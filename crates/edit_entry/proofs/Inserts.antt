@@ -31,7 +31,7 @@ use Rattle.layout.specs.Parts.{pathAfter}
 use Rattle.slots.specs.Times.{timesSet}
 use Rattle.edit_entry.specs.Filling.{Filled}
 use Rattle.edit_entry.specs.Growth.{newRow, Timed, Grown}
-use Rattle.edit_entry.specs.Insertion.{Vacancy, Holds, Insertable, insertion}
+use Rattle.edit_entry.specs.Insertion.{Vacancy, Holds, Insertable, insertion, InsertedAt}
 use Rattle.edit_entry.proofs.Grows.{grown-dir, grown-file, grown-link}
 use Rattle.edit_entry.proofs.Places.{gap-tree, gap-rows}
 
@@ -238,7 +238,7 @@ module _ (ws rs hs : List ℕ) (ts : List ℤ) (ps bs : Bytes) (k depth : ℕ) (
           grown-at : Grown st st′ a b (newRow q x s) h c t
           grown-at = subst (λ (d : ℕ). Grown st st′ a b (record { depth = d; name = x; slot = s }) h c t) (v .deep) grown
 
-          pub inserted : Spells st′ (edited (insertion kind (q ++ (x ∷ [])) m t c) (state st))
+          inserted : Spells st′ (edited (insertion kind (q ++ (x ∷ [])) m t c) (state st))
           inserted = go kind refl (i .holds)
             where
               go : (y : ℕ) → y ≡ kind → Holds y c → Spells st′ (edited (insertion y (q ++ (x ∷ [])) m t c) (state st))
@@ -253,6 +253,9 @@ module _ (ws rs hs : List ℕ) (ts : List ℤ) (ps bs : Bytes) (k depth : ℕ) (
                   subst (λ (y : ℕ). Spells st′ (edited (insertion 3 (q ++ (x ∷ [])) y t c) (state st))) mode-is
                   (grown-link st st′ a b (newRow q x s) h c t l grown-at (q ++ (x ∷ [])) (gap-tree st st′ a b q x s h c t l grown-at (v .gap)) (gap-rows st st′ a b q x s h c t l grown-at (v .gap) not-empty (v .name)) slot-ok (v .missing) (kind-is ∙ sym e))
               go (suc (suc (suc (suc y)))) e w = absurd w
+
+          pub inserted-at : InsertedAt st st′ k q x kind m t c
+          inserted-at = record { spells = inserted; slot = s; rows = grown-at .new }
 
 -- ---- the place of an entry
 

@@ -1,14 +1,14 @@
 -- What the steps of a nest ask, and that what they leave is the model's nest.
 -- Assumes nothing.
 use mathlib.Core.Bool.{true}
-use mathlib.Core.List.{List, [], _∷_, _++_}
+use mathlib.Core.List.{List, [], _∷_, _++_, append-assoc}
 use mathlib.Core.Path.{_≡_, refl, sym, ap, _∙_, subst}
 use Prim.Native.Nat.{ℕ, suc, _+_, _*_, _≤_, _<_}
 use native.Mathlib.Numerals.{add-one}
 use native.Mathlib.Omega.{arith}
 use lib.IntN.{ℤ}
-use lib.ListN.{length, take, getD, set, length-set}
-use lib.Seq.{getD-set-same, getD-take, length-take-le}
+use lib.ListN.{length, take, getD, set, length-append, length-set}
+use lib.Seq.{getD-set-same, getD-take, length-take-le, take-append-seam}
 use Rattle.text.specs.Utf8.{Bytes}
 use Rattle.path.specs.Path.{Name}
 use Rattle.model.specs.Tree.{Path}
@@ -19,7 +19,7 @@ use Rattle.layout.specs.Store.{Store, lent, count, live, rowsOf, kindAt, state}
 use Rattle.layout.specs.Lawful.{Lawful}
 use Rattle.model.specs.Calls.States.{nested}
 use Rattle.layout.specs.Alike.{Spells}
-use Rattle.layout.specs.Parts.{pathAfter}
+use Rattle.layout.specs.Parts.{pathAfter, deepen}
 use Rattle.layout.proofs.Roots.{root-of}
 use Rattle.layout.proofs.Worded.{head-length, head-kind, head-mode}
 use Rattle.layout.proofs.Edited.Inserting.{root-is}
@@ -29,7 +29,7 @@ use Rattle.records.proofs.Entries.{rows-front}
 use Rattle.edit_entry.specs.Filling.{Filled}
 use Rattle.edit_entry.specs.Growth.{newMeta}
 use Rattle.edit_entry.specs.Removal.{EntryPath}
-use Rattle.edit_entry.specs.Nesting.{MayNest}
+use Rattle.edit_entry.specs.Nesting.{MayNest, NestedAt}
 use Rattle.edit_entry.proofs.Adding.{Added}
 use Rattle.edit_entry.proofs.Entries.{slot-low}
 use Rattle.edit_entry.proofs.Inserts.{name-short, times-filled, holds-slot}
@@ -165,9 +165,28 @@ module _ (ws rs hs : List ℕ) (ts : List ℤ) (ps bs : Bytes) (i e : ℕ) (y : 
       is-dir : kindOf h ≡ 1
       is-dir = head-kind 0 1 m (omega arith) (omega arith)
 
-      pub nested-by : (p : Path) → EntryPath st i p → Spells st′ (nested p y (newMeta m t) (state st))
+      -- the first entries, the new one and the one below it
+      first-rows : take (suc (suc i)) (rowsOf st′) ≡ take i (rowsOf st) ++ (record { depth = row .depth; name = row .name; slot = s } ∷ (record { depth = suc (row .depth); name = y; slot = row .slot } ∷ []))
+      first-rows =
+          let two : List Row = record { depth = row .depth; name = row .name; slot = s } ∷ (record { depth = suc (row .depth); name = y; slot = row .slot } ∷ []) in
+          let rest : List Row = deepen (row .depth) (suc (row .depth)) x ++ b in
+          let n₂ : suc (suc i) ≡ length ((root ∷ a) ++ two) = omega (arith, front-long, length-append (root ∷ a) two) in
+          (λ j. take (n₂ j) (new-rows j))
+          ∙ (ap (take (length ((root ∷ a) ++ two))) (sym (append-assoc (root ∷ a) two rest))
+          ∙ (take-append-seam ((root ∷ a) ++ two) rest ∙ ap (λ (z : List Row). z ++ two) (sym (removes.part ws rs hs ts ps bs i e l (n .block) .front))))
+
+      nested-by : (p : Path) → EntryPath st i p → Spells st′ (nested p y (newMeta m t) (state st))
       nested-by p k =
           subst (λ (q : Path). Spells st′ (nested q y (newMeta m t) (state st))) (sym (removes.entry-path ws rs hs ts ps bs i e l (n .block)) ∙ k)
           (subst (λ (v : ℕ). Spells st′ (nested (pathOf (pathAfter [] a) row) y (newMeta v t) (state st))) (head-mode 0 1 m (omega arith) (omega arith))
           (nested-spells st st′ root a row x b y s h t l added (removes.below ws rs hs ts ps bs i e l (n .block)) (removes.behind ws rs hs ts ps bs i e l (n .block)) (n .name) is-dir
           (holds-slot 1 0 m [] (omega arith) refl (omega arith) refl)))
+
+      pub nested-at : (p : Path) → EntryPath st i p → NestedAt st st′ i y p m t
+      nested-at p k = record {
+        spells = nested-by p k;
+        row = row;
+        slot = s;
+        old = removes.part ws rs hs ts ps bs i e l (n .block) .path ∙ ap (λ (z : List Row). z ++ (row ∷ [])) (sym (removes.part ws rs hs ts ps bs i e l (n .block) .front));
+        new = first-rows;
+      }

@@ -17,7 +17,7 @@ use Rattle.blocks.proofs.Cuts.{thirds, none-between}
 use Rattle.model.specs.Tree.{Path}
 use Rattle.model.specs.Prog.{remove}
 use Rattle.model.proofs.Entries.{is-true}
-use Rattle.layout.specs.Fields.{depthOf, slotOf}
+use Rattle.layout.specs.Fields.{depthOf, slotOf, kindOf}
 use Rattle.layout.specs.Rows.{Row, rows, nameTotal, pathOf}
 use Rattle.layout.specs.Slots.{total}
 use Rattle.layout.specs.Store.{Store, lent, count, live, holder, rowsOf, kindAt, nodeAt, state}
@@ -207,8 +207,15 @@ module _ (ws rs hs : List ℕ) (ts : List ℤ) (ps bs : Bytes) (i e : ℕ) (l : 
             shrunk-spells st st′ (root ∷ a) (row ∷ x) b l shrunk (pathOf (pathAfter [] a) row) (rows-cut (kindAt st) (length hs) root a row x b rules below behind)
             (look-cut (kindAt st) (length hs) root a row x b rules below behind (nodeAt st))
 
-        removed-by : Removed st st′ i
-        removed-by p h = subst (λ (q : Path). Spells st′ (edited (remove q) (state st))) (sym entry-path ∙ h) spelled
+        still : (k : ℕ) → 0 < uses k (rowsOf st′) → stays st left k ≡ true
+        still k h = ap (λ (t : Bool). t || heldFrom st 32 0 k) (lt-ltb 0 (uses k left) (omega (arith, h, ap (uses k) new-rows)))
+
+        removed-by : Removed st st′ i e
+        removed-by p h = record {
+          spells = subst (λ (q : Path). Spells st′ (edited (remove q) (state st))) (sym entry-path ∙ h) spelled;
+          rows = new-rows ∙ ap (λ (y : List Row). y ++ b) (sym (part .front));
+          kinds = λ k u. ap kindOf (shrunk .keptHead k (still k u));
+        }
 
       -- ---- one entry
 
@@ -250,7 +257,7 @@ module _ (ws rs hs : List ℕ) (ts : List ℤ) (ps bs : Bytes) (i e : ℕ) (l : 
             unused-free k (omega (arith, uses-all k, uses-other k d, z .0)) (z .1) (slot-of st k (l .slots k (ltb-true k (length hs) t)))
         free-before k h d false t = List·getD-eq-default hs 0 {n = k} (ltb-false k (length hs) t)
 
-        pub removed-one : (t : ℕ) → t ≡ s → (hs′ : List ℕ) (bs′ : Bytes) → Cleared hs bs₁ hs′ bs′ (keepsOne ws′ t) → Removed st (lent ws′ rs′ hs′ ts ps bs′) i
+        pub removed-one : (t : ℕ) → t ≡ s → (hs′ : List ℕ) (bs′ : Bytes) → Cleared hs bs₁ hs′ bs′ (keepsOne ws′ t) → Removed st (lent ws′ rs′ hs′ ts ps bs′) i e
         removed-one t u hs′ bs′ cl = removed-by hs′ bs′ (keepsOne ws′ s) (subst (λ (y : ℕ). Cleared hs bs₁ hs′ bs′ (keepsOne ws′ y)) u cl) (λ k h. kept k h (ℕ-discrete k s)) (λ k h t. gone k h t (ℕ-discrete k s))
           where
             kept : (k : ℕ) → stays st left k ≡ true → Dec (k ≡ s) → keepsOne ws′ s k ≡ true
@@ -287,6 +294,6 @@ module _ (ws rs hs : List ℕ) (ts : List ℤ) (ps bs : Bytes) (i e : ℕ) (l : 
         may-free-one s refl .3,
       )
 
-      pub removed-more : (hs′ : List ℕ) (bs′ : Bytes) → Cleared hs bs₁ hs′ bs′ (keepsUsed ws′ recs) → Removed st (lent ws′ rs′ hs′ ts ps bs′) i
+      pub removed-more : (hs′ : List ℕ) (bs′ : Bytes) → Cleared hs bs₁ hs′ bs′ (keepsUsed ws′ recs) → Removed st (lent ws′ rs′ hs′ ts ps bs′) i e
       removed-more hs′ bs′ cl =
           removed-by hs′ bs′ (keepsUsed ws′ recs) cl (λ k h. sym (stays-used k) ∙ h) (λ k h t. absurd (false≢true (sym h ∙ (stays-used k ∙ t))))

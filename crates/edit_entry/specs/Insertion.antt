@@ -18,7 +18,7 @@ use Rattle.model.specs.Calls.States.{edited}
 use Rattle.layout.specs.Alike.{Spells}
 use Rattle.layout.specs.Parts.{Gap}
 use Rattle.slots.specs.Free.{HasFree}
-use Rattle.edit_entry.specs.Growth.{newMeta}
+use Rattle.edit_entry.specs.Growth.{newRow, newMeta}
 
 -- the place before record k is the place of the entry x of the directory q, which is not there
 pub record Vacancy (st : Store) (k depth : ℕ) (q : Path) (x : Name) : Type 0 where
@@ -56,9 +56,15 @@ pub record MayInsert (st : Store) (k depth : ℕ) (q : Path) (x : Name) (kind : 
   pub allowed : Insertable st x kind c
   pub free : HasFree (st .heads)
 
--- what is left
+-- what is left: the edited state, in which the entry has record k, and the records from there on stand one further
+pub record InsertedAt (st st′ : Store) (k : ℕ) (q : Path) (x : Name) (kind m : ℕ) (t : Time) (c : Bytes) : Type 0 where
+  pub spells : Spells st′ (edited (insertion kind (q ++ (x ∷ [])) m t c) (state st))
+  pub slot : ℕ
+  pub rows : rowsOf st′ ≡ take k (rowsOf st) ++ (newRow q x slot ∷ drop k (rowsOf st))
+
+-- of every directory q of which the place is one for x
 abbrev pub Inserted : Store → Store → ℕ → ℕ → Name → ℕ → ℕ → Time → Bytes → Type 0
-Inserted st st′ k depth x kind m t c = (q : Path) → MayInsert st k depth q x kind c → Spells st′ (edited (insertion kind (q ++ (x ∷ [])) m t c) (state st))
+Inserted st st′ k depth x kind m t c = (q : Path) → MayInsert st k depth q x kind c → InsertedAt st st′ k q x kind m t c
 
 -- there is no entry, and a slot is free
 pub record MayRoot (st : Store) : Type 0 where

@@ -1,6 +1,7 @@
 // A new entry.
 ghost use Rattle.model.specs.Tree.{Path};
-ghost use Rattle.layout.specs.Lent.{withTree, Some, OnTree};
+ghost use Rattle.layout.specs.Lent.{_∘_, withWords, withRecords, withHeads, withTimes, withBytes, SomeLawful};
+ghost use Rattle.layout.specs.Lent.{_&_, onWords, onRecords, onHeads, onTimes, onBytes, OnLawful};
 ghost use Rattle.edit_entry.specs.Insertion.{MayInsert, MayRoot, Inserted, Rooted};
 use crate::fill::fill_slot;
 use crate::fill::vacant_slot;
@@ -21,9 +22,9 @@ pub fn insert_entry(
     t: i64,
     text: &[u8],
 )
-    requires { ⌜ Some (λ st. withTree st words records heads times bytes)
+    requires { ⌜ SomeLawful (withWords words ∘ withRecords records ∘ withHeads heads ∘ withTimes times ∘ withBytes bytes)
         (λ st. (q : Path) × MayInsert st k depth q (now name) kind (now text)) ⌝ }
-    ensures { λ _. ⌜ OnTree words records heads times bytes
+    ensures { λ _. ⌜ OnLawful (onWords words & onRecords records & onHeads heads & onTimes times & onBytes bytes)
         (λ st u. Inserted st u k depth (now (name .entry)) kind mode t (now (text .entry))) ⌝ }
 {
     let count = words[COUNT_AT] as usize;
@@ -44,8 +45,8 @@ pub fn insert_root(
     mode: u32,
     t: i64,
 )
-    requires { ⌜ Some (λ st. withTree st words records heads times bytes) MayRoot ⌝ }
-    ensures { λ _. ⌜ OnTree words records heads times bytes (λ st u. Rooted st u mode t) ⌝ }
+    requires { ⌜ SomeLawful (withWords words ∘ withRecords records ∘ withHeads heads ∘ withTimes times ∘ withBytes bytes) MayRoot ⌝ }
+    ensures { λ _. ⌜ OnLawful (onWords words & onRecords records & onHeads heads & onTimes times & onBytes bytes) (λ st u. Rooted st u mode t) ⌝ }
 {
     let count = words[COUNT_AT] as usize;
     let nothing = [0u8; 1];

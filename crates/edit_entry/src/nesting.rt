@@ -1,5 +1,6 @@
 // An entry below a new directory in its place.
-ghost use Rattle.layout.specs.Lent.{withTree, Some, OnTree};
+ghost use Rattle.layout.specs.Lent.{_∘_, withWords, withRecords, withHeads, withTimes, withBytes, SomeLawful};
+ghost use Rattle.layout.specs.Lent.{_&_, onWords, onRecords, onHeads, onTimes, onBytes, OnLawful};
 ghost use Rattle.edit_entry.specs.Nesting.{MayNest, Nested};
 use crate::fill::fill_slot;
 use crate::fill::vacant_slot;
@@ -18,8 +19,10 @@ pub fn nest_entry(
     mode: u32,
     t: i64,
 )
-    requires { ⌜ Some (λ st. withTree st words records heads times bytes) (λ st. MayNest st i e (now name)) ⌝ }
-    ensures { λ _. ⌜ OnTree words records heads times bytes (λ st u. Nested st u i e (now (name .entry)) mode t) ⌝ }
+    requires { ⌜ SomeLawful (withWords words ∘ withRecords records ∘ withHeads heads ∘ withTimes times ∘ withBytes bytes)
+        (λ st. MayNest st i e (now name)) ⌝ }
+    ensures { λ _. ⌜ OnLawful (onWords words & onRecords records & onHeads heads & onTimes times & onBytes bytes)
+        (λ st u. Nested st u i e (now (name .entry)) mode t) ⌝ }
 {
     let count = words[COUNT_AT] as usize;
     let nothing = [0u8; 1];

@@ -4,7 +4,8 @@ ghost use mathlib.Core.Path.{_≡_};
 ghost use lib.ListN.{length};
 ghost use Rattle.layout.specs.Numbers.{extentAt, mostSlots, wordCount};
 ghost use Rattle.layout.specs.Slots.{total};
-ghost use Rattle.layout.specs.Lent.{withEntries, Some, OnEntries};
+ghost use Rattle.layout.specs.Lent.{_∘_, withWords, withRecords, withHeads, withBytes, SomeLawful};
+ghost use Rattle.layout.specs.Lent.{_&_, onWords, onRecords, onHeads, onBytes, OnLawful};
 ghost use Rattle.slots.specs.Uses.{usesIn, Within, Standing};
 ghost use Rattle.edit_entry.specs.Clearing.{keepsOne, keepsUsed, Cleared};
 ghost use Rattle.edit_entry.specs.Removal.{Block, Removed};
@@ -48,8 +49,8 @@ pub fn remove_entry(
     i: usize,
     e: usize,
 )
-    requires { ⌜ Some (λ st. withEntries st words records heads bytes) (λ st. Block st i e) ⌝ }
-    ensures { λ _. ⌜ OnEntries words records heads bytes (λ st u. Removed st u i) ⌝ }
+    requires { ⌜ SomeLawful (withWords words ∘ withRecords records ∘ withHeads heads ∘ withBytes bytes) (λ st. Block st i e) ⌝ }
+    ensures { λ _. ⌜ OnLawful (onWords words & onRecords records & onHeads heads & onBytes bytes) (λ st u. Removed st u i e) ⌝ }
 {
     let count = words[COUNT_AT] as usize;
     let s = layout::slot_of(records[i]);

@@ -6,7 +6,7 @@ use lib.ListN.{length, take, getD}
 use Rattle.layout.specs.Numbers.{extentAt}
 use Rattle.layout.specs.Store.{Store, most, count, extent, slotsFor, state}
 use Rattle.layout.specs.Lawful.{Lawful}
-use Rattle.layout.specs.Lent.{Slice, Slices, withSlots}
+use Rattle.layout.specs.Lent.{Slice, Slices, _∘_, _&_, withWords, withHeads, onWords, onHeads, On}
 use Rattle.slots.specs.Free.{HasFree}
 
 -- the store with the words of the slots that it has so far, and none behind them
@@ -37,9 +37,8 @@ pub record Released (st st′ : Store) : Type 0 where
 
 -- some store has the words and the words of the slots, with room
 abbrev pub SomeRoomy : Slice ℕ → Slice ℕ → Type 0
-SomeRoomy words heads = (st : Store) × Roomy (withSlots st words heads)
+SomeRoomy words heads = (st : Store) × Roomy ((withWords words ∘ withHeads heads) st)
 
 -- of every store that has them, with room: P holds of it before and after
 abbrev pub OnSlots : Slices ℕ → Slices ℕ → (Store → Store → Type 0) → Type 0
-OnSlots words heads P =
-    (st : Store) → Roomy (withSlots st (words .entry) (heads .entry)) → P (withSlots st (words .entry) (heads .entry)) (withSlots st (words .exit) (heads .exit))
+OnSlots words heads P = On (onWords words & onHeads heads) (λ st u. Roomy st → P st u)

@@ -3,7 +3,7 @@ ghost use mathlib.Core.Path.{_≡_};
 ghost use Prim.Native.Nat.{_+_, _*_, _<_};
 ghost use lib.ListN.{length, getD, set};
 ghost use Rattle.layout.specs.Store.{bytesAt};
-ghost use Rattle.layout.specs.Lent.{withContents, withFile, Some, OnHeads, OnTimes, OnContents, OnFile};
+ghost use Rattle.layout.specs.Lent.{_∘_, _&_, withHeads, withTimes, withBytes, onHeads, onTimes, onBytes, SomeLawful, OnLawful};
 ghost use Rattle.model.specs.Calls.Performing.{givenIf};
 ghost use Rattle.model.specs.Tree.{write, resize, chmod, touch, touchSome};
 ghost use Rattle.slots.specs.Put.{fitted};
@@ -23,7 +23,7 @@ fn put_mode(heads: &mut [u64], slot: usize, m: u32)
 // The mode of a directory, a file or a link.
 pub fn set_mode(heads: &mut [u64], slot: usize, m: u32)
     requires { ⌜ slot < length (now heads) ⌝ }
-    ensures { λ _. ⌜ OnHeads heads (λ st u. Changes (chmod m) st u slot) ⌝ }
+    ensures { λ _. ⌜ OnLawful (onHeads heads) (λ st u. Changes (chmod m) st u slot) ⌝ }
 {
     put_mode(heads, slot, m);
 }
@@ -31,7 +31,7 @@ pub fn set_mode(heads: &mut [u64], slot: usize, m: u32)
 // The first time for accessed, changed and created, the second for modified.
 pub fn set_times(times: &mut [i64], slot: usize, a: i64, t: i64)
     requires { ⌜ 4 * slot + 3 < length (now times) ⌝ }
-    ensures { λ _. ⌜ OnTimes times (λ st u. slot < length (st .heads) → Changes (touch a t) st u slot) ⌝ }
+    ensures { λ _. ⌜ OnLawful (onTimes times) (λ st u. slot < length (st .heads) → Changes (touch a t) st u slot) ⌝ }
 {
     slots::put_times(times, slot, a, t);
 }
@@ -49,7 +49,7 @@ fn put_if(times: &mut [i64], i: usize, ok: bool, t: i64)
 // The times accessed and modified, each if it is given.
 pub fn set_some_times(times: &mut [i64], slot: usize, access: bool, a: i64, modify: bool, t: i64)
     requires { ⌜ 4 * slot + 3 < length (now times) ⌝ }
-    ensures { λ _. ⌜ OnTimes times (λ st u. slot < length (st .heads)
+    ensures { λ _. ⌜ OnLawful (onTimes times) (λ st u. slot < length (st .heads)
         → Changes (touchSome (givenIf access a) (givenIf modify t)) st u slot) ⌝ }
 {
     put_if(times, 4 * slot, access, a);
@@ -65,8 +65,8 @@ pub fn set_contents(
     text: &[u8],
     t: i64,
 )
-    requires { ⌜ Some (λ st. withFile st heads times bytes) (λ st. HasRoom st slot (length (now text))) ⌝ }
-    ensures { λ _. ⌜ OnFile heads times bytes (λ st u. HasRoom st slot (length (now (text .entry)))
+    requires { ⌜ SomeLawful (withHeads heads ∘ withTimes times ∘ withBytes bytes) (λ st. HasRoom st slot (length (now text))) ⌝ }
+    ensures { λ _. ⌜ OnLawful (onHeads heads & onTimes times & onBytes bytes) (λ st u. HasRoom st slot (length (now (text .entry)))
         → Changes (write (now (text .entry)) t) st u slot) ⌝ }
 {
     slots::write(heads, bytes, slot, text);
@@ -75,8 +75,8 @@ pub fn set_contents(
 
 // A file cut to n bytes, or extended by zeros.
 pub fn set_length(heads: &mut [u64], bytes: &mut [u8], slot: usize, n: usize)
-    requires { ⌜ Some (λ st. withContents st heads bytes) (λ st. HasRoom st slot n) ⌝ }
-    ensures { λ _. ⌜ OnContents heads bytes (λ st u. HasRoom st slot n → Changes (resize (fitted n (bytesAt st slot))) st u slot) ⌝ }
+    requires { ⌜ SomeLawful (withHeads heads ∘ withBytes bytes) (λ st. HasRoom st slot n) ⌝ }
+    ensures { λ _. ⌜ OnLawful (onHeads heads & onBytes bytes) (λ st u. HasRoom st slot n → Changes (resize (fitted n (bytesAt st slot))) st u slot) ⌝ }
 {
     slots::resize(heads, bytes, slot, n);
 }

@@ -7,7 +7,8 @@ ghost use Rattle.path.specs.Path.{names};
 ghost use Rattle.model.specs.Prog.{umask, seek, go, opens, close};
 ghost use Rattle.layout.specs.Numbers.{fileNumbers, mostSlots, wordCount, pathsBytes};
 ghost use Rattle.layout.specs.Lawful.{cellOk};
-ghost use Rattle.layout.specs.Lent.{withEntries, Some, Edits, OnWords, OnPaths, OnEntries};
+ghost use Rattle.layout.specs.Lent.{_∘_, withWords, withRecords, withHeads, withBytes, SomeLawful};
+ghost use Rattle.layout.specs.Lent.{_&_, onWords, onRecords, onHeads, onPaths, onBytes, OnLawful, Edits};
 ghost use Rattle.edit_state.specs.Numbers.{IsOpen, MayOpen};
 use layout::CELL_BYTES;
 use layout::COUNT_AT;
@@ -23,7 +24,7 @@ use slots::marks::is_used;
 // Sets the umask.
 pub fn set_umask(words: &mut [u64], m: u32)
     requires { ⌜ length (now words) ≡ wordCount ⌝ }
-    ensures { λ _. ⌜ OnWords words (Edits (umask m)) ⌝ }
+    ensures { λ _. ⌜ OnLawful (onWords words) (Edits (umask m)) ⌝ }
 {
     words[MASK_AT] = m as u64;
 }
@@ -31,7 +32,7 @@ pub fn set_umask(words: &mut [u64], m: u32)
 // Puts a number at the position k.
 pub fn set_position(words: &mut [u64], n: usize, k: u64)
     requires { ⌜ (length (now words) ≡ wordCount) × (n < fileNumbers) ⌝ }
-    ensures { λ _. ⌜ OnWords words (Edits (seek n k)) ⌝ }
+    ensures { λ _. ⌜ OnLawful (onWords words) (Edits (seek n k)) ⌝ }
 {
     words[POSITION_AT + NUMBER_WORDS * n] = k;
 }
@@ -39,7 +40,7 @@ pub fn set_position(words: &mut [u64], n: usize, k: u64)
 // Makes the path the current directory: its length, and its bytes in the first cell.
 pub fn set_current(words: &mut [u64], paths: &mut [u8], path: &[u8])
     requires { ⌜ (length (now words) ≡ wordCount) × (length (now paths) ≡ pathsBytes) × T (cellOk (now path)) ⌝ }
-    ensures { λ _. ⌜ OnPaths words paths (Edits (go (names (now (path .entry))))) ⌝ }
+    ensures { λ _. ⌜ OnLawful (onWords words & onPaths paths) (Edits (go (names (now (path .entry))))) ⌝ }
 {
     words[HERE_AT] = path.len() as u64;
     blocks::copy_into(paths, 0, path);
@@ -56,7 +57,7 @@ pub fn open_number(
 )
     requires { ⌜ (length (now words) ≡ wordCount) × (length (now paths) ≡ pathsBytes) × T (cellOk (now path))
         × (n < fileNumbers) × (slot < mostSlots) ⌝ }
-    ensures { λ _. ⌜ OnPaths words paths (λ st u. MayOpen st n (names (now (path .entry))) slot
+    ensures { λ _. ⌜ OnLawful (onWords words & onPaths paths) (λ st u. MayOpen st n (names (now (path .entry))) slot
         → Edits (opens n (names (now (path .entry))) pos) st u) ⌝ }
 {
     words[HOLDER_AT + NUMBER_WORDS * n] = slot as u64 + 1;
@@ -73,8 +74,8 @@ pub fn close_number(
     bytes: &mut [u8],
     n: usize,
 )
-    requires { ⌜ Some (λ st. withEntries st words records heads bytes) (λ st. IsOpen st n) ⌝ }
-    ensures { λ _. ⌜ OnEntries words records heads bytes (Edits (close n)) ⌝ }
+    requires { ⌜ SomeLawful (withWords words ∘ withRecords records ∘ withHeads heads ∘ withBytes bytes) (λ st. IsOpen st n) ⌝ }
+    ensures { λ _. ⌜ OnLawful (onWords words & onRecords records & onHeads heads & onBytes bytes) (Edits (close n)) ⌝ }
 {
     let h = words[HOLDER_AT + NUMBER_WORDS * n];
     words[HOLDER_AT + NUMBER_WORDS * n] = 0;

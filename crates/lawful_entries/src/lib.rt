@@ -13,7 +13,8 @@ mod walk;
 
 // Whether the records are the entries of a tree, in the order of a walk. `total` is the length of all names.
 pub fn entries_ok(recs: &[u64], heads: &[u64], bytes: &[u8], total: usize) -> bool
-    requires { ⌜ (total ≡ nameTotal (now recs)) × (total ≤ length (now bytes)) × (length (now recs) ≤ mostEntries) × (length (now bytes) ≤ mostBytes) ⌝ }
+    requires { ⌜ (total ≡ nameTotal (now recs)) × (total ≤ length (now bytes))
+        × (length (now recs) ≤ mostEntries) × (length (now bytes) ≤ mostBytes) ⌝ }
     ensures { λ r. ⌜ r ≡ rowsOk (kindIn (now (heads .entry))) (length (now (heads .entry))) (rows (now (recs .entry)) (now (bytes .entry))) ⌝ }
 {
     if !looks::names_clean(recs, bytes, total) {

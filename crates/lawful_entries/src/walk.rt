@@ -32,7 +32,8 @@ fn follows_ok(
     d: usize,
     dir: bool,
 ) -> bool
-    requires { ⌜ (length (now last) ≡ mostEntries) × (d ≤ mostEntries) × Spelt (length (now bytes)) (now last) d × (length (now bytes) ≤ mostBytes) ⌝ }
+    requires { ⌜ (length (now last) ≡ mostEntries) × (d ≤ mostEntries) × Spelt (length (now bytes)) (now last) d
+        × (length (now bytes) ≤ mostBytes) ⌝ }
     ensures { λ r. ⌜ r ≡ follows (spell (now (bytes .entry)) (take d (now (last .entry)))) dir depth (now (name .entry)) ⌝ }
 {
     if depth == 0 {

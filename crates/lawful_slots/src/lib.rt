@@ -15,7 +15,8 @@ mod taken;
 // Whether every slot is right but for the bytes of links. What has a slot says what its word may be. Where then as many words are
 // not 0 as slots are taken, the words of all others are 0.
 pub fn slots_ok(words: &[u64], recs: &[u64], heads: &[u64]) -> bool
-    requires { ⌜ (extentAt ≤ length (now words)) × (length (now heads) ≤ mostSlots) × Within (length (now heads)) (now recs) × Standing (now words) ⌝ }
+    requires { ⌜ (extentAt ≤ length (now words)) × (length (now heads) ≤ mostSlots)
+        × Within (length (now heads)) (now recs) × Standing (now words) ⌝ }
     ensures { λ r. ⌜ Settles r (SlotsRight (now (words .entry)) (now (recs .entry)) (now (heads .entry))) ⌝ }
 {
     let mut taken = [0u8; MOST_SLOTS];

@@ -14,6 +14,7 @@ use Rattle.path.specs.Path.{names, body, same}
 use Rattle.path.proofs.Laws.{and-left, and-right}
 use Rattle.model.specs.Tree.{File, file, Open, fileOf}
 use Rattle.model.specs.Rules.{pathOk, metaOk, bytesOk, FileOk, NodeOk, Obeys}
+use Rattle.model.proofs.Space.Steps.{Parents}
 use Rattle.model.proofs.Sound.Worlds.{OpenOk}
 use Rattle.model.proofs.Sound.Files.{meta-whole}
 use Rattle.model.proofs.Sound.Numbers.{prefix-bytes}
@@ -47,6 +48,12 @@ mode-small h s = div-lt-iff-lt-mul {k = 4294967296} {x = h} {y = 2 ^ 32} (omega 
 kept-path : (s : Bytes) → T (cellOk s) → T (pathOk (names s))
 unfolding cellOk
 kept-path s t = and-left (pathOk (names s)) (same (body (names s)) s) t
+
+-- only directories have entries
+pub lawful-parents : (st : Store) → Lawful st → Parents (state st .tree)
+lawful-parents st l p x m e =
+    let a = entry st l (p ++ (x ∷ [])) m e in
+    all-home (kindAt st) (length (st .heads)) (nodeAt st) (λ k e. (metaAt st k, dir-at st k e)) (rowsOf st) (l .entries) p x (a .row) (a .at)
 
 module _ (st : Store) (z : Sized st) (l : Lawful st) where
   abbrev all : ℕ
@@ -94,9 +101,7 @@ module _ (st : Store) (z : Sized st) (l : Lawful st) where
         bytesFit = omega (arith, bytes-used st l, l .space);
         paths = all-once (kindAt st) all (nodeAt st) (rowsOf st) (l .entries);
         root = all-rooted (kindAt st) all (nodeAt st) (λ k e. (metaAt st k, dir-at st k e)) (rowsOf st) (l .entries);
-        parents = λ p x m e.
-            let a = entry st l (p ++ (x ∷ [])) m e in
-            all-home (kindAt st) all (nodeAt st) (λ k e. (metaAt st k, dir-at st k e)) (rowsOf st) (l .entries) p x (a .row) (a .at);
+        parents = lawful-parents st l;
         named = λ p m e. let a = entry st l p m e in all-named (kindAt st) all (rowsOf st) (l .entries) p (a .row) (a .at);
         nodes = λ p m e.
             let a = entry st l p m e in

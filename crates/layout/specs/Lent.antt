@@ -36,96 +36,85 @@ after words records heads times paths bytes = lends (words .exit) (records .exit
 
 -- ---- some of them, in any store
 
--- the state's words
-abbrev pub withWords : Store → Slice ℕ → Store
-withWords st words = lent (now words) (st .records) (st .heads) (st .times) (st .paths) (st .bytes)
+-- one after the other
+infixr 40 _∘_
+abbrev pub _∘_ : (Store → Store) → (Store → Store) → Store → Store
+_∘_ f g st = f (g st)
 
--- with the kept paths
-abbrev pub withPaths : Store → Slice ℕ → Slice ℕ → Store
-withPaths st words paths = lent (now words) (st .records) (st .heads) (st .times) (now paths) (st .bytes)
+-- a store with these words of the state
+abbrev pub withWords : Slice ℕ → Store → Store
+withWords words st = lent (now words) (st .records) (st .heads) (st .times) (st .paths) (st .bytes)
 
--- with the words of the slots
-abbrev pub withSlots : Store → Slice ℕ → Slice ℕ → Store
-withSlots st words heads = lent (now words) (st .records) (now heads) (st .times) (st .paths) (st .bytes)
+-- with these words of the records
+abbrev pub withRecords : Slice ℕ → Store → Store
+withRecords records st = lent (st .words) (now records) (st .heads) (st .times) (st .paths) (st .bytes)
+
+-- with these words of the slots
+abbrev pub withHeads : Slice ℕ → Store → Store
+withHeads heads st = lent (st .words) (st .records) (now heads) (st .times) (st .paths) (st .bytes)
+
+-- with these times of the slots
+abbrev pub withTimes : Slice ℤ → Store → Store
+withTimes times st = lent (st .words) (st .records) (st .heads) (now times) (st .paths) (st .bytes)
+
+-- with these cells of the kept paths
+abbrev pub withPaths : Slice ℕ → Store → Store
+withPaths paths st = lent (st .words) (st .records) (st .heads) (st .times) (now paths) (st .bytes)
+
+-- with this byte storage
+abbrev pub withBytes : Slice ℕ → Store → Store
+withBytes bytes st = lent (st .words) (st .records) (st .heads) (st .times) (st .paths) (now bytes)
+
+-- ---- the same at a function's two moments
+
+-- a store with the slices as they are lent, and as they are left
+pub record Lending : Type 0 where
+  pub had : Store → Store
+  pub has : Store → Store
+
+-- these slices and those
+infixr 40 _&_
+abbrev pub _&_ : Lending → Lending → Lending
+_&_ k l = record { had = k .had ∘ l .had; has = k .has ∘ l .has }
+
+-- the words of the state
+abbrev pub onWords : Slices ℕ → Lending
+onWords words = record { had = withWords (words .entry); has = withWords (words .exit) }
+
+-- the words of the records
+abbrev pub onRecords : Slices ℕ → Lending
+onRecords records = record { had = withRecords (records .entry); has = withRecords (records .exit) }
 
 -- the words of the slots
-abbrev pub withHeads : Store → Slice ℕ → Store
-withHeads st heads = lent (st .words) (st .records) (now heads) (st .times) (st .paths) (st .bytes)
+abbrev pub onHeads : Slices ℕ → Lending
+onHeads heads = record { had = withHeads (heads .entry); has = withHeads (heads .exit) }
 
--- their times
-abbrev pub withTimes : Store → Slice ℤ → Store
-withTimes st times = lent (st .words) (st .records) (st .heads) (now times) (st .paths) (st .bytes)
+-- the times of the slots
+abbrev pub onTimes : Slices ℤ → Lending
+onTimes times = record { had = withTimes (times .entry); has = withTimes (times .exit) }
 
--- their words and bytes
-abbrev pub withContents : Store → Slice ℕ → Slice ℕ → Store
-withContents st heads bytes = lent (st .words) (st .records) (now heads) (st .times) (st .paths) (now bytes)
+-- the cells of the kept paths
+abbrev pub onPaths : Slices ℕ → Lending
+onPaths paths = record { had = withPaths (paths .entry); has = withPaths (paths .exit) }
 
--- their words, times and bytes
-abbrev pub withFile : Store → Slice ℕ → Slice ℤ → Slice ℕ → Store
-withFile st heads times bytes = lent (st .words) (st .records) (now heads) (now times) (st .paths) (now bytes)
-
--- the state's words, the records and the names
-abbrev pub withNames : Store → Slice ℕ → Slice ℕ → Slice ℕ → Store
-withNames st words records bytes = lent (now words) (now records) (st .heads) (st .times) (st .paths) (now bytes)
-
--- with the words of the slots
-abbrev pub withEntries : Store → Slice ℕ → Slice ℕ → Slice ℕ → Slice ℕ → Store
-withEntries st words records heads bytes = lent (now words) (now records) (now heads) (st .times) (st .paths) (now bytes)
-
--- with their times
-abbrev pub withTree : Store → Slice ℕ → Slice ℕ → Slice ℕ → Slice ℤ → Slice ℕ → Store
-withTree st words records heads times bytes = lent (now words) (now records) (now heads) (now times) (st .paths) (now bytes)
+-- the byte storage
+abbrev pub onBytes : Slices ℕ → Lending
+onBytes bytes = record { had = withBytes (bytes .entry); has = withBytes (bytes .exit) }
 
 -- ---- what a contract says of them
 
 -- some store that has the slices obeys the rules, and P holds of it
-abbrev pub Some : (Store → Store) → (Store → Type 0) → Type 0
-Some has P = (st : Store) × Lawful (has st) × P (has st)
+abbrev pub SomeLawful : (Store → Store) → (Store → Type 0) → Type 0
+SomeLawful has P = (st : Store) × Lawful (has st) × P (has st)
 
--- of every store that has the slices and obeys the rules: P holds of it before and after
-abbrev pub Every : (Store → Store) → (Store → Store) → (Store → Store → Type 0) → Type 0
-Every had has P = (st : Store) → Lawful (had st) → P (had st) (has st)
+-- of every store that has the slices: P holds of it before and after
+abbrev pub On : Lending → (Store → Store → Type 0) → Type 0
+On l P = (st : Store) → P (l .had st) (l .has st)
+
+-- the same where it obeys the rules before
+abbrev pub OnLawful : Lending → (Store → Store → Type 0) → Type 0
+OnLawful l P = On l (λ st u. Lawful st → P st u)
 
 -- what the edit makes of the state is spelt after
 abbrev pub Edits : Edit → Store → Store → Type 0
 Edits e st u = Spells u (edited e (state st))
-
--- of every store with these words of the state
-abbrev pub OnWords : Slices ℕ → (Store → Store → Type 0) → Type 0
-OnWords words P = Every (λ st. withWords st (words .entry)) (λ st. withWords st (words .exit)) P
-
--- with the kept paths
-abbrev pub OnPaths : Slices ℕ → Slices ℕ → (Store → Store → Type 0) → Type 0
-OnPaths words paths P = Every (λ st. withPaths st (words .entry) (paths .entry)) (λ st. withPaths st (words .exit) (paths .exit)) P
-
--- with these words of the slots
-abbrev pub OnHeads : Slices ℕ → (Store → Store → Type 0) → Type 0
-OnHeads heads P = Every (λ st. withHeads st (heads .entry)) (λ st. withHeads st (heads .exit)) P
-
--- with these times of the slots
-abbrev pub OnTimes : Slices ℤ → (Store → Store → Type 0) → Type 0
-OnTimes times P = Every (λ st. withTimes st (times .entry)) (λ st. withTimes st (times .exit)) P
-
--- with these words and bytes of the slots
-abbrev pub OnContents : Slices ℕ → Slices ℕ → (Store → Store → Type 0) → Type 0
-OnContents heads bytes P = Every (λ st. withContents st (heads .entry) (bytes .entry)) (λ st. withContents st (heads .exit) (bytes .exit)) P
-
--- with their times too
-abbrev pub OnFile : Slices ℕ → Slices ℤ → Slices ℕ → (Store → Store → Type 0) → Type 0
-OnFile heads times bytes P = Every (λ st. withFile st (heads .entry) (times .entry) (bytes .entry)) (λ st. withFile st (heads .exit) (times .exit) (bytes .exit)) P
-
--- with these words, records and names
-abbrev pub OnNames : Slices ℕ → Slices ℕ → Slices ℕ → (Store → Store → Type 0) → Type 0
-OnNames words records bytes P =
-    Every (λ st. withNames st (words .entry) (records .entry) (bytes .entry)) (λ st. withNames st (words .exit) (records .exit) (bytes .exit)) P
-
--- with the words of the slots too
-abbrev pub OnEntries : Slices ℕ → Slices ℕ → Slices ℕ → Slices ℕ → (Store → Store → Type 0) → Type 0
-OnEntries words records heads bytes P =
-    Every (λ st. withEntries st (words .entry) (records .entry) (heads .entry) (bytes .entry)) (λ st. withEntries st (words .exit) (records .exit) (heads .exit) (bytes .exit)) P
-
--- and with the times of the slots
-abbrev pub OnTree : Slices ℕ → Slices ℕ → Slices ℕ → Slices ℤ → Slices ℕ → (Store → Store → Type 0) → Type 0
-OnTree words records heads times bytes P =
-    Every (λ st. withTree st (words .entry) (records .entry) (heads .entry) (times .entry) (bytes .entry))
-    (λ st. withTree st (words .exit) (records .exit) (heads .exit) (times .exit) (bytes .exit)) P

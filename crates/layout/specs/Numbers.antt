@@ -87,6 +87,10 @@ depths = 65536
 abbrev pub nameLengths : ℕ
 nameLengths = 256
 
+-- numbers of slots are less than this
+abbrev pub slotNumbers : ℕ
+slotNumbers = 65536
+
 -- one slot more in a word
 abbrev pub slotUnit : ℕ
 slotUnit = 16777216

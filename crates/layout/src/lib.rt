@@ -1,7 +1,7 @@
 // The numbers of the layout, as specs/Numbers.antt has them, and the fields of the words of a store.
 ghost use mathlib.Core.Path.{_≡_};
 ghost use Prim.Native.Nat.{_<_};
-ghost use Rattle.layout.specs.Numbers.{depths, nameLengths, lengths, kinds};
+ghost use Rattle.layout.specs.Numbers.{depths, nameLengths, slotNumbers, lengths, kinds};
 ghost use Rattle.layout.specs.Fields.{depthOf, nlenOf, slotOf, recordWord, lenOf, kindOf, modeOf, headWord};
 
 // The limits.
@@ -79,7 +79,7 @@ pub fn slot_of(w: u64) -> usize
 
 // The word of a record.
 pub fn record_word(d: usize, n: usize, s: usize) -> u64
-    requires { ⌜ (d < depths) × (n < nameLengths) × (s < 65536) ⌝ }
+    requires { ⌜ (d < depths) × (n < nameLengths) × (s < slotNumbers) ⌝ }
     ensures { λ r. ⌜ r ≡ recordWord d n s ⌝ }
 {
     (s as u64 * NAME_LENGTHS + n as u64) * DEPTHS + d as u64

@@ -7,7 +7,8 @@ ghost use lib.ListN.{length, take, drop};
 // A slash and the name at `at`.
 pub fn put_name(out: &mut [u8], at: usize, n: &[u8])
     requires { ⌜ at + 1 + length (now n) ≤ length (now out) ⌝ }
-    ensures { λ _. ⌜ now (out .exit) ≡ take at (now (out .entry)) ++ ((47 ∷ now (n .entry)) ++ drop (at + 1 + length (now (n .entry))) (now (out .entry))) ⌝ }
+    ensures { λ _. ⌜ now (out .exit) ≡ take at (now (out .entry))
+        ++ ((47 ∷ now (n .entry)) ++ drop (at + 1 + length (now (n .entry))) (now (out .entry))) ⌝ }
 {
     out[at] = 47;
     let mut j = 0;

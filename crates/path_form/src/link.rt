@@ -15,7 +15,8 @@ use path_scan::sifting::put_kept;
 // How much of out[..dir], the link's directory, stays before a target that drops `skip` names: nothing before an absolute one.
 fn dir_kept(out: &[u8], dir: usize, target: &[u8], skip: usize) -> usize
     requires { ⌜ (dir ≤ length (now out)) × (body (names (take dir (now out))) ≡ take dir (now out)) ⌝ }
-    ensures { λ r. ⌜ (r ≤ dir) × (take r (now (out .entry)) ≡ body (dropN skip (from (names (take dir (now (out .entry)))) (now (target .entry))))) ⌝ }
+    ensures { λ r. ⌜ (r ≤ dir)
+        × (take r (now (out .entry)) ≡ body (dropN skip (from (names (take dir (now (out .entry)))) (now (target .entry))))) ⌝ }
 {
     if is_absolute(target) {
         return 0;
@@ -26,7 +27,8 @@ fn dir_kept(out: &[u8], dir: usize, target: &[u8], skip: usize) -> usize
 // out[..dir] is the link's directory and out[rest..len] what stands behind the link's name; of a last link, rest is len.
 // The target seen from there, and then the rest, take their place.
 pub fn follow(out: &mut [u8], dir: usize, rest: usize, len: usize, target: &[u8]) -> Formed
-    requires { ⌜ (dir ≤ rest) × (rest ≤ len) × (len ≤ 1024) × (1024 ≤ length (now out)) × (body (names (take dir (now out))) ≡ take dir (now out)) ⌝ }
+    requires { ⌜ (dir ≤ rest) × (rest ≤ len) × (len ≤ 1024) × (1024 ≤ length (now out))
+        × (body (names (take dir (now out))) ≡ take dir (now out)) ⌝ }
     ensures { λ r. ⌜ Forms (body (absolute (names (take dir (now (out .entry)))) (now (target .entry))) ++ part rest len (now (out .entry)))
         (now (out .entry)) (now (out .exit)) r ⌝ }
 {

@@ -2,7 +2,7 @@
 ghost use mathlib.Core.Path.{_≡_};
 ghost use Prim.Native.Nat.{suc, _+_, _-_, _<_, _≤_};
 ghost use lib.ListN.{length, take, drop, getD};
-ghost use Rattle.layout.specs.Numbers.{mostEntries, depths, nameLengths};
+ghost use Rattle.layout.specs.Numbers.{mostEntries, depths, nameLengths, slotNumbers};
 ghost use Rattle.layout.specs.Fields.{depthOf, nlenOf, slotOf};
 ghost use Rattle.layout.specs.Rows.{nameTotal};
 ghost use Rattle.blocks.specs.Turn.{turned};
@@ -84,7 +84,8 @@ fn lift_words(records: &mut [u64], a: usize, b: usize, up: u64, down: u64)
 
 // Exchanges the entries from a to m with those from m to e.
 fn swing(records: &mut [u64], bytes: &mut [u8], a: usize, m: usize, e: usize)
-    requires { ⌜ (a ≤ m) × (m ≤ e) × (e ≤ length (now records)) × (e ≤ mostEntries) × (nameTotal (take e (now records)) ≤ length (now bytes)) ⌝ }
+    requires { ⌜ (a ≤ m) × (m ≤ e) × (e ≤ length (now records)) × (e ≤ mostEntries)
+        × (nameTotal (take e (now records)) ≤ length (now bytes)) ⌝ }
     ensures { λ _. ⌜ (now (records .exit) ≡ turned (now (records .entry)) a m e)
         × (now (bytes .exit) ≡ turned (now (bytes .entry)) (nameTotal (take a (now (records .entry))))
         (nameTotal (take m (now (records .entry)))) (nameTotal (take e (now (records .entry))))) ⌝ }
@@ -121,7 +122,7 @@ pub fn move_block(
 
 // The word of an entry with another slot.
 fn with_slot(w: u64, s: usize) -> u64
-    requires { ⌜ s < 65536 ⌝ }
+    requires { ⌜ s < slotNumbers ⌝ }
     ensures { λ r. ⌜ (depthOf r ≡ depthOf w) × (nlenOf r ≡ nlenOf w) × (slotOf r ≡ s) ⌝ }
 {
     s as u64 * SLOT_UNIT + w % SLOT_UNIT
@@ -129,7 +130,7 @@ fn with_slot(w: u64, s: usize) -> u64
 
 // The word of the same entry one deeper, with a name of n bytes.
 fn word_below(w: u64, n: usize) -> u64
-    requires { ⌜ (depthOf w + 1 < depths) × (n < nameLengths) × (slotOf w < 65536) ⌝ }
+    requires { ⌜ (depthOf w + 1 < depths) × (n < nameLengths) × (slotOf w < slotNumbers) ⌝ }
     ensures { λ r. ⌜ (depthOf r ≡ suc (depthOf w)) × (nlenOf r ≡ n) × (slotOf r ≡ slotOf w) ⌝ }
 {
     w / SLOT_UNIT * SLOT_UNIT + n as u64 * DEPTHS + (w % DEPTHS + 1)
@@ -145,8 +146,8 @@ pub fn lower_block(
     s: usize,
     name: &[u8],
 )
-    requires { ⌜ (i < e) × (e ≤ count) × (count < length (now records)) × (count ≤ mostEntries) × (s < 65536) × (length (now name) < nameLengths)
-        × (slotOf (getD (now records) i 0) < 65536) × Liftables (now records) i e 1 0
+    requires { ⌜ (i < e) × (e ≤ count) × (count < length (now records)) × (count ≤ mostEntries) × (s < slotNumbers)
+        × (length (now name) < nameLengths) × (slotOf (getD (now records) i 0) < slotNumbers) × Liftables (now records) i e 1 0
         × (nameTotal (take count (now records)) + length (now name) ≤ length (now bytes)) ⌝ }
     ensures { λ _. ⌜ Lowers records bytes count i e s (now (name .entry)) ⌝ }
 {

@@ -33,8 +33,10 @@ pub fn mark_records(recs: &[u64], marks: &mut [u8; MOST_SLOTS]) -> bool
 
 // Adds 2 to the mark of each slot that a file number stands on, once.
 pub fn mark_numbers(words: &[u64], marks: &mut [u8; MOST_SLOTS])
-    requires { ⌜ (extentAt ≤ length (now words)) × Standing (now words) × (length (now marks) ≡ mostSlots) × ((k : ℕ) → getD (now marks) k 0 ≤ 1) ⌝ }
-    ensures { λ _. ⌜ ((k : ℕ) → getD (now (marks .exit)) k 0 ≡ getD (now (marks .entry)) k 0 + cond (standsFrom (now (words .entry)) fileNumbers 0 k) 2 0)
+    requires { ⌜ (extentAt ≤ length (now words)) × Standing (now words) × (length (now marks) ≡ mostSlots)
+        × ((k : ℕ) → getD (now marks) k 0 ≤ 1) ⌝ }
+    ensures { λ _. ⌜ ((k : ℕ) → getD (now (marks .exit)) k 0
+        ≡ getD (now (marks .entry)) k 0 + cond (standsFrom (now (words .entry)) fileNumbers 0 k) 2 0)
         × (length (now (marks .exit)) ≡ mostSlots) ⌝ }
 {
     let mut j: usize = 0;
@@ -56,7 +58,7 @@ pub fn mark_numbers(words: &[u64], marks: &mut [u8; MOST_SLOTS])
 // Whether a number has the word h: one more than the slot that it stands on.
 pub fn is_held(words: &[u64], h: u64) -> bool
     requires { ⌜ (length (now words) ≡ wordCount) × (0 < h) ⌝ }
-    ensures { λ r. ⌜ r ≡ heldFrom (lent (now (words .entry)) [] [] [] [] []) 32 0 (h - 1) ⌝ }
+    ensures { λ r. ⌜ r ≡ heldFrom (lent (now (words .entry)) [] [] [] [] []) fileNumbers 0 (h - 1) ⌝ }
 {
     let mut held = false;
     let mut i: usize = FILE_NUMBERS;

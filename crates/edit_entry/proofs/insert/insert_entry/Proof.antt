@@ -3,7 +3,7 @@ use mathlib.Core.Path.{refl}
 use mir.Syntax.{w64}
 use mir.ValLaws.{toZ-ofZ}
 use Rattle.edit_entry.proofs.Fills.{same-time}
-use Rattle.edit_entry.proofs.Inserts.{depth-small, name-length, slot-small, may-open, may-fill, inserted}
+use Rattle.edit_entry.proofs.Inserts.{depth-small, name-length, slot-small, may-open, may-fill, inserted-at}
 use borrow.Author.Needs.{needs}
 use Rattle.edit_entry.proofs.insert.insert_entry.Statement.{statement}
 use Rattle.edit_entry.proofs.insert.insert_entry.Tie as tie
@@ -65,7 +65,7 @@ same-length-5 c = search needs
 returns : tie.Need-returns
 returns c st l q m =
     let g = c .before .before .before .before .before .before .before .before .before .before .before .before .before .before .before .before .before .before .before .before .before .before .before .before .before .before .args in
-    inserted (g .words .now) (g .records .now) (g .heads .now) (g .times .now) (st .paths) (g .bytes .now) (g .k) (g .depth) (g .name .now) (g .kind) (g .mode) (g .t) (g .text .now) l (m .allowed) (m .vacant .last) (depth-small _ _ _ _ _ l (m .vacant)) (name-length _ _ _ _ _ l (m .vacant)) _ _ (c .before .before .before .before .before .before .before .before .before .before .before .before .before .before .before .before .before .vacant-slot .ensures) (c .before .before .before .before .before .before .before .before .before .before .before .before .before .before .before .before .record-word .ensures) _ _ (c .before .before .before .before .before .before .before .before .before .before .before .before .before .open-entry .ensures) _ _ _ _ (same-time (toZ-ofZ w64 (g .t) (c .before .before .before .before .before .before .before .before .before .before .before .before .before .before .before .before .before .before .before .before .before .before .before .before .before .before .fits .t)) (c .before .before .before .before .before .fill-slot .ensures)) refl q (m .vacant)
+    inserted-at (g .words .now) (g .records .now) (g .heads .now) (g .times .now) (st .paths) (g .bytes .now) (g .k) (g .depth) (g .name .now) (g .kind) (g .mode) (g .t) (g .text .now) l (m .allowed) (m .vacant .last) (depth-small _ _ _ _ _ l (m .vacant)) (name-length _ _ _ _ _ l (m .vacant)) _ _ (c .before .before .before .before .before .before .before .before .before .before .before .before .before .before .before .before .before .vacant-slot .ensures) (c .before .before .before .before .before .before .before .before .before .before .before .before .before .before .before .before .record-word .ensures) _ _ (c .before .before .before .before .before .before .before .before .before .before .before .before .before .open-entry .ensures) _ _ _ _ (same-time (toZ-ofZ w64 (g .t) (c .before .before .before .before .before .before .before .before .before .before .before .before .before .before .before .before .before .before .before .before .before .before .before .before .before .before .fits .t)) (c .before .before .before .before .before .fill-slot .ensures)) refl q (m .vacant)
 
 pub insert-entry-spec : {M : Type 1} → statement M
 insert-entry-spec =

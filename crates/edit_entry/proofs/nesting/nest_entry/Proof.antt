@@ -3,7 +3,7 @@ use mathlib.Core.Path.{refl}
 use mir.Syntax.{w64}
 use mir.ValLaws.{toZ-ofZ}
 use Rattle.edit_entry.proofs.Fills.{same-time}
-use Rattle.edit_entry.proofs.Lowering.{may-lower, nested-by}
+use Rattle.edit_entry.proofs.Lowering.{may-lower, nested-at}
 use borrow.Author.Needs.{needs}
 use Rattle.edit_entry.proofs.nesting.nest_entry.Statement.{statement}
 use Rattle.edit_entry.proofs.nesting.nest_entry.Tie as tie
@@ -60,7 +60,7 @@ returns : tie.Need-returns
 returns c st l n p k =
     let g = c .before .before .before .before .before .before .before .before .before .before .before .before .before .before .before .before .before .before .before .before .before .before .before .before .before in
     let a = g .args in
-    nested-by (a .words .now) (a .records .now) (a .heads .now) (a .times .now) (st .paths) (a .bytes .now) (a .i) (a .e) (a .name .now) (a .mode) (a .t) l n _ (c .before .before .before .before .before .before .before .before .before .before .before .before .before .before .before .before .vacant-slot .ensures) _ _ (c .before .before .before .before .before .before .before .before .before .before .before .before .before .lower-block .ensures) _ _ _ _
+    nested-at (a .words .now) (a .records .now) (a .heads .now) (a .times .now) (st .paths) (a .bytes .now) (a .i) (a .e) (a .name .now) (a .mode) (a .t) l n _ (c .before .before .before .before .before .before .before .before .before .before .before .before .before .before .before .before .vacant-slot .ensures) _ _ (c .before .before .before .before .before .before .before .before .before .before .before .before .before .lower-block .ensures) _ _ _ _
     (same-time (toZ-ofZ w64 (a .t) (g .fits .t)) (c .before .before .before .before .before .fill-slot .ensures)) refl p k
 
 pub nest-entry-spec : {M : Type 1} → statement M
