@@ -1,2 +1,4 @@
 pub mod Asked
 pub mod Looking
+pub mod Listed
+pub mod Spaced

@@ -1,1 +1,3 @@
 pub mod Shows
+pub mod Listing
+pub mod Space

@@ -5,8 +5,6 @@ use mathlib.Core.List.{[], _∷_, _++_}
 use mathlib.Core.Option.{none, some}
 use mathlib.Core.Path.{_≡_}
 use Prim.Native.Nat.{ℕ, _≤_, _<_}
-use lib.IntN.{ℤ}
-use denote.Ref.{now}
 use Rattle.model.specs.Tree.{Path}
 use Rattle.text.specs.Utf8.{Bytes}
 use Rattle.path.specs.Path.{Name}
@@ -14,8 +12,8 @@ use Rattle.model.specs.Prog.{World, Kind, aDir, Ask, kind?, target?, open?, hel
 use Rattle.model.specs.Calls.States.{State, worldOf}
 use Rattle.model.specs.Shaped.{Shaped}
 use Rattle.model.specs.Alike.{Alike}
-use Rattle.layout.specs.Store.{Store, lent, count, state}
-use Rattle.layout.specs.Lent.{Slice}
+use Rattle.layout.specs.Store.{Store, count, state}
+use Rattle.layout.specs.Lent.{Lending}
 use Rattle.edit_room.specs.Extents.{trim, Roomy}
 use Rattle.ask_find.specs.declared.Spot.{Spot}
 use Rattle.ask_find.specs.declared.Look.{Look}
@@ -36,13 +34,13 @@ pub record Shows (st : Store) (s : State) : Type 0 where
 abbrev pub Stands : Store → Spot → Path → Type 0
 Stands st spot p = At (trim st) spot p
 
--- of every store that has the slices, and of every state that it shows
-abbrev pub Of : (Store → Store) → (Store → State → Type 0) → Type 0
-Of has say = (st : Store) (s : State) → Shows (has st) s → say (has st) s
+-- of every store that has the slices as they were lent, and of every state that it shows
+abbrev pub Of : Lending → (Store → State → Type 0) → Type 0
+Of l say = (st : Store) (s : State) → Shows (l .had st) s → say (l .had st) s
 
 -- and of every path whose entry the spot is
-abbrev pub OfEntry : (Store → Store) → Spot → (State → Path → Type 0) → Type 0
-OfEntry has spot say = Of has (λ st s. (p : Path) → Stands st spot p → say s p)
+abbrev pub OfEntry : Lending → Spot → (State → Path → Type 0) → Type 0
+OfEntry l spot say = Of l (λ st s. (p : Path) → Stands st spot p → say s p)
 
 -- some store that has the slices shows a state
 abbrev pub Some : (Store → Store) → Type 0
@@ -89,45 +87,11 @@ LookIs st s w h p x (Found spot) = There st s w (p ++ (x ∷ [])) spot
 LookIs st s w h p x (Missing gap) = (answer (kind? (p ++ (x ∷ []))) w ≡ none) × Vacant (trim st) h p x gap
 
 -- the entry x of the directory at the spot
-abbrev pub ChildIs : (Store → Store) → Spot → Name → ℕ → Look → Type 0
-ChildIs has spot x h r =
-    Of has (λ st s. (p : Path) (w : World) → Stands st spot p → Asked st s h w → answer (kind? p) w ≡ some aDir → LookIs st s w h p x r)
+abbrev pub ChildIs : Lending → Spot → Name → ℕ → Look → Type 0
+ChildIs l spot x h r =
+    Of l (λ st s. (p : Path) (w : World) → Stands st spot p → Asked st s h w → answer (kind? p) w ≡ some aDir → LookIs st s w h p x r)
 
 -- the root, where there is one; a gap is the place for it
 abbrev pub RootIs : Store → State → Look → Type 0
 RootIs st s (Found spot) = (h : ℕ) (w : World) (k : Kind) → Asked st s h w → answer (kind? []) w ≡ some k → There st s w [] spot
 RootIs st s (Missing gap) = (says (kind? []) s ≡ none) × (count st ≡ 0)
-
--- ---- stores that have these slices
-
--- words and records
-abbrev pub withRecords : Slice ℕ → Slice ℕ → Store → Store
-withRecords words records st = lent (now words) (now records) (st .heads) (st .times) (st .paths) (st .bytes)
-
--- the bytes of the names too
-abbrev pub withNames : Slice ℕ → Slice ℕ → Slice ℕ → Store → Store
-withNames words records bytes st = lent (now words) (now records) (st .heads) (st .times) (st .paths) (now bytes)
-
--- words, records and the words of the slots
-abbrev pub withKinds : Slice ℕ → Slice ℕ → Slice ℕ → Store → Store
-withKinds words records heads st = lent (now words) (now records) (now heads) (st .times) (st .paths) (st .bytes)
-
--- and their times
-abbrev pub withStats : Slice ℕ → Slice ℕ → Slice ℕ → Slice ℤ → Store → Store
-withStats words records heads times st = lent (now words) (now records) (now heads) (now times) (st .paths) (st .bytes)
-
--- or their bytes
-abbrev pub withContents : Slice ℕ → Slice ℕ → Slice ℕ → Slice ℕ → Store → Store
-withContents words records heads bytes st = lent (now words) (now records) (now heads) (st .times) (st .paths) (now bytes)
-
--- these without the records
-abbrev pub withHeld : Slice ℕ → Slice ℕ → Slice ℕ → Store → Store
-withHeld words heads bytes st = lent (now words) (st .records) (now heads) (st .times) (st .paths) (now bytes)
-
--- words and kept paths
-abbrev pub withPaths : Slice ℕ → Slice ℕ → Store → Store
-withPaths words paths st = lent (now words) (st .records) (st .heads) (st .times) (now paths) (st .bytes)
-
--- words alone
-abbrev pub withWords : Slice ℕ → Store → Store
-withWords words st = lent (now words) (st .records) (st .heads) (st .times) (st .paths) (st .bytes)

@@ -3,17 +3,21 @@ ghost use mathlib.Core.Option.{some};
 ghost use mathlib.Core.Path.{_≡_};
 ghost use lib.ListN.{take, getD};
 ghost use Rattle.layout.specs.Numbers.{extentAt};
+ghost use Rattle.layout.specs.Lent.{_∘_, withWords, withRecords, withHeads, withBytes};
+ghost use Rattle.layout.specs.Lent.{_&_, onWords, onRecords, onHeads, onTimes, onPaths, onBytes};
 ghost use Rattle.model.specs.Prog.{kind?, stat?, bare?, mask?};
 ghost use Rattle.model.specs.Calls.States.{worldOf};
 ghost use Rattle.ask_entry.specs.Reads.{kindFrom, statFrom, Contents, PathIs};
 ghost use Rattle.store.specs.Shows.{Of, OfEntry, Some, SomeEntry, says, NumberIs, HeldIs, KeptIs, ChildIs, RootIs};
-ghost use Rattle.store.specs.Shows.{withRecords, withNames, withKinds, withStats, withContents, withHeld, withPaths, withWords};
 use ask_entry::Stat;
 use ask_find::Look;
 use ask_find::Spot;
 use layout::COUNT_AT;
 use layout::EXTENT_AT;
 use layout::MASK_AT;
+
+pub mod listing;
+pub mod space;
 
 // A file number: closed, or open at a position.
 pub enum Number {
@@ -22,7 +26,7 @@ pub enum Number {
 }
 
 // The words of the slots that there are so far.
-fn in_use<'a>(words: &[u64], heads: &'a [u64]) -> &'a [u64]
+pub(crate) fn in_use<'a>(words: &[u64], heads: &'a [u64]) -> &'a [u64]
     ensures { λ r. ⌜ now r ≡ take (getD (now (words .entry)) extentAt 0) (now (heads .entry)) ⌝ }
 {
     if words.len() <= EXTENT_AT {
@@ -38,7 +42,7 @@ fn in_use<'a>(words: &[u64], heads: &'a [u64]) -> &'a [u64]
 // The root.
 pub fn root(words: &[u64]) -> Look
     requires { ⌜ Some (withWords words) ⌝ }
-    ensures { λ r. ⌜ Of (withWords (words .entry)) (λ st s. RootIs st s r) ⌝ }
+    ensures { λ r. ⌜ Of (onWords words) (λ st s. RootIs st s r) ⌝ }
 {
     ask_find::root(words[COUNT_AT] as usize)
 }
@@ -52,22 +56,22 @@ pub fn child(
     name: &[u8],
     hidden: usize,
 ) -> Look
-    requires { ⌜ SomeEntry (withNames words records bytes) dir ⌝ }
-    ensures { λ r. ⌜ ChildIs (withNames (words .entry) (records .entry) (bytes .entry)) dir (now (name .entry)) hidden r ⌝ }
+    requires { ⌜ SomeEntry (withWords words ∘ withRecords records ∘ withBytes bytes) dir ⌝ }
+    ensures { λ r. ⌜ ChildIs (onWords words & onRecords records & onBytes bytes) dir (now (name .entry)) hidden r ⌝ }
 {
     ask_find::child(records, bytes, words[COUNT_AT] as usize, dir, name, hidden)
 }
 
 // The kind of the entry at the spot: 0 for a directory, 1 for a file, 2 for a link.
 pub fn kind(words: &[u64], records: &[u64], heads: &[u64], spot: Spot) -> u8
-    ensures { λ r. ⌜ OfEntry (withKinds (words .entry) (records .entry) (heads .entry)) spot (λ s p. says (kind? p) s ≡ some (kindFrom r)) ⌝ }
+    ensures { λ r. ⌜ OfEntry (onWords words & onRecords records & onHeads heads) spot (λ s p. says (kind? p) s ≡ some (kindFrom r)) ⌝ }
 {
     ask_entry::entry_kind(records, in_use(words, heads), spot)
 }
 
 // The metadata of the entry at the spot.
 pub fn stat(words: &[u64], records: &[u64], heads: &[u64], times: &[i64], spot: Spot) -> Stat
-    ensures { λ r. ⌜ OfEntry (withStats (words .entry) (records .entry) (heads .entry) (times .entry)) spot (λ s p. says (stat? p) s ≡ some (statFrom r)) ⌝ }
+    ensures { λ r. ⌜ OfEntry (onWords words & onRecords records & onHeads heads & onTimes times) spot (λ s p. says (stat? p) s ≡ some (statFrom r)) ⌝ }
 {
     ask_entry::entry_stat(records, in_use(words, heads), times, spot)
 }
@@ -80,16 +84,16 @@ pub fn contents<'a>(
     bytes: &'a [u8],
     spot: Spot,
 ) -> &'a [u8]
-    requires { ⌜ Some (withContents words records heads bytes) ⌝ }
-    ensures { λ r. ⌜ OfEntry (withContents (words .entry) (records .entry) (heads .entry) (bytes .entry)) spot (λ s p. Contents (worldOf s) p (now r)) ⌝ }
+    requires { ⌜ Some (withWords words ∘ withRecords records ∘ withHeads heads ∘ withBytes bytes) ⌝ }
+    ensures { λ r. ⌜ OfEntry (onWords words & onRecords records & onHeads heads & onBytes bytes) spot (λ s p. Contents (worldOf s) p (now r)) ⌝ }
 {
     ask_entry::entry_contents(records, in_use(words, heads), bytes, spot)
 }
 
 // Whether the directory at the spot is empty.
 pub fn bare(words: &[u64], records: &[u64], spot: Spot) -> bool
-    requires { ⌜ SomeEntry (withRecords words records) spot ⌝ }
-    ensures { λ r. ⌜ OfEntry (withRecords (words .entry) (records .entry)) spot (λ s p. says (bare? p) s ≡ r) ⌝ }
+    requires { ⌜ SomeEntry (withWords words ∘ withRecords records) spot ⌝ }
+    ensures { λ r. ⌜ OfEntry (onWords words & onRecords records) spot (λ s p. says (bare? p) s ≡ r) ⌝ }
 {
     ask_list::is_bare(records, words[COUNT_AT] as usize, spot)
 }
@@ -97,21 +101,21 @@ pub fn bare(words: &[u64], records: &[u64], spot: Spot) -> bool
 // The umask.
 pub fn mask(words: &[u64]) -> u32
     requires { ⌜ Some (withWords words) ⌝ }
-    ensures { λ r. ⌜ Of (withWords (words .entry)) (λ _ s. says mask? s ≡ r) ⌝ }
+    ensures { λ r. ⌜ Of (onWords words) (λ _ s. says mask? s ≡ r) ⌝ }
 {
     words[MASK_AT] as u32
 }
 
 // The path of the current directory.
 pub fn here<'a>(words: &[u64], paths: &'a [u8]) -> &'a [u8]
-    ensures { λ r. ⌜ Of (withPaths (words .entry) (paths .entry)) (λ _ s. PathIs (s .here) (now r)) ⌝ }
+    ensures { λ r. ⌜ Of (onWords words & onPaths paths) (λ _ s. PathIs (s .here) (now r)) ⌝ }
 {
     ask_entry::current(words, paths)
 }
 
 // The file number n.
 pub fn open(words: &[u64], n: usize) -> Number
-    ensures { λ r. ⌜ Of (withWords (words .entry)) (λ _ s. NumberIs s n r) ⌝ }
+    ensures { λ r. ⌜ Of (onWords words) (λ _ s. NumberIs s n r) ⌝ }
 {
     match ask_entry::number_at(words, n) {
         ask_entry::Number::Closed => Number::Closed,
@@ -121,15 +125,15 @@ pub fn open(words: &[u64], n: usize) -> Number
 
 // The bytes of the file that the open number n stands on.
 pub fn held<'a>(words: &[u64], heads: &[u64], bytes: &'a [u8], n: usize) -> &'a [u8]
-    requires { ⌜ Some (withHeld words heads bytes) ⌝ }
-    ensures { λ r. ⌜ Of (withHeld (words .entry) (heads .entry) (bytes .entry)) (λ _ s. HeldIs s n (now r)) ⌝ }
+    requires { ⌜ Some (withWords words ∘ withHeads heads ∘ withBytes bytes) ⌝ }
+    ensures { λ r. ⌜ Of (onWords words & onHeads heads & onBytes bytes) (λ _ s. HeldIs s n (now r)) ⌝ }
 {
     ask_entry::held_bytes(words, in_use(words, heads), bytes, n)
 }
 
 // The path that the open number n keeps.
 pub fn kept<'a>(words: &[u64], paths: &'a [u8], n: usize) -> &'a [u8]
-    ensures { λ r. ⌜ Of (withPaths (words .entry) (paths .entry)) (λ _ s. KeptIs s n (now r)) ⌝ }
+    ensures { λ r. ⌜ Of (onWords words & onPaths paths) (λ _ s. KeptIs s n (now r)) ⌝ }
 {
     ask_entry::kept_path(words, paths, n)
 }

@@ -170,7 +170,8 @@ pub extern "C" fn probe_last_name<'a>(out: &mut [u8], path: &'a [u8], cwd: &'a [
 
 // out[..have] is a link's directory: the link's name, of `name` bytes, and the rest are put behind it, and it is followed.
 fn follow_behind(out: &mut [u8], have: usize, behind: &[u8], name: usize, target: &[u8]) -> u64
-    requires { ⌜ (have ≤ 1024) × (1024 ≤ length (now out)) × (name ≤ length (now behind)) × (body (names (take have (now out))) ≡ take have (now out)) ⌝ }
+    requires { ⌜ (have ≤ 1024) × (1024 ≤ length (now out)) × (name ≤ length (now behind))
+        × (body (names (take have (now out))) ≡ take have (now out)) ⌝ }
     ensures { λ r. ⌜ Behind have (now (behind .entry)) name (now (target .entry)) (now (out .entry)) (now (out .exit)) r ⌝ }
 {
     if 1024 - have < behind.len() {

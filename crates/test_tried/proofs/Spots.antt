@@ -1,14 +1,13 @@
--- Where an entry is put in or taken out, by what the functions of `find` answer: the place before the record where a name is missing
--- is vacant, and the records up to the end of a block are an entry with all below it.
+-- Where an entry is put in, by what the functions of `find` answer: the place before the record where a name is missing is vacant.
 -- Assumes nothing.
 use mathlib.Core.Bool.{Bool, true, false}
-use mathlib.Core.List.{List, [], _∷_, _++_}
+use mathlib.Core.List.{[], _∷_, _++_}
 use mathlib.Core.Option.{none}
 use mathlib.Core.Path.{_≡_, refl, sym, ap, _∙_, subst}
-use Prim.Native.Nat.{ℕ, zero, suc, _-_, _≤_, _<_}
+use Prim.Native.Nat.{ℕ, suc, _-_, _≤_, _<_}
 use native.Mathlib.Omega.{arith}
 use lib.Dec.{T, leb}
-use lib.ListN.{length, take, drop, getD}
+use lib.ListN.{length, take, drop}
 use lib.Seq.{take-all}
 use borrow.Author.Tests.{leb-true, leb-false}
 use Rattle.text.specs.Utf8.{Bytes}
@@ -19,21 +18,18 @@ use Rattle.path.proofs.Cutting.{NoSlash, pieces-no-slash}
 use Rattle.path.proofs.Every.{Every}
 use Rattle.model.specs.Tree.{look}
 use Rattle.model.specs.Rules.{nameOk}
-use Rattle.layout.specs.Fields.{depthOf}
 use Rattle.layout.specs.Rows.{nameTotal}
 use Rattle.layout.specs.Store.{Store, count, rowsOf, kindAt, state}
 use Rattle.layout.specs.Lawful.{Lawful}
 use Rattle.lawful.specs.Parts.{pieceOk}
 use Rattle.lawful.proofs.KeptPaths.{piece-name}
-use Rattle.layout.specs.Parts.{pathAfter, Gap, Deeper}
+use Rattle.layout.specs.Parts.{pathAfter, Gap}
 use Rattle.layout.proofs.Edited.Removing.{begins, rises-behind}
 use Rattle.ask_find.specs.declared.Gap as place
 use Rattle.ask_find.specs.Paths.{pathAt}
-use Rattle.ask_find.specs.Spots.{At, blockEnd, Room, between, instead, Vacant}
+use Rattle.ask_find.specs.Spots.{At, Room, between, instead, Vacant}
 use Rattle.ask_find.proofs.Records.{path-rises}
-use Rattle.ask_find.proofs.Blocks.{block-after, block-last, block-parts}
 use Rattle.edit_entry.specs.Insertion.{Holds}
-use Rattle.edit_entry.specs.Removal.{Block}
 use Rattle.test_tried.specs.Tried.{Spotted}
 
 -- a text whose last piece is all of it has no slash
@@ -75,22 +71,3 @@ spotted st l i h x n g e v = go (v .room)
     go : Room st (count st) (pathAt st i) x (g .at) → Spotted st i (g .at) (g .depth) x
     go (between w) = record { after = after-dir st l i (g .at) x h (v .first) (v .last) w; vacant = record { first = v .first; last = v .last; deep = v .deep; name = n; gap = w; missing = e } }
     go (instead a b c w) = absurd (omega (arith, a))
-
-drop-of-take : {A : Type 0} (m n : ℕ) (l : List A) → drop m (take n l) ≡ take (n - m) (drop m l)
-drop-of-take zero n l = let e : n ≡ n - 0 = omega arith in ap (λ (k : ℕ). take k l) e
-drop-of-take (suc m) zero l = let e : 0 ≡ 0 - suc m = omega arith in ap (λ (k : ℕ). take k (drop (suc m) l)) e
-drop-of-take (suc m) (suc n) [] = sym (take-all (suc n - suc m) [] (omega arith))
-drop-of-take (suc m) (suc n) (a ∷ l) = let e : n - m ≡ suc n - suc m = omega arith in drop-of-take m n l ∙ ap (λ (k : ℕ). take k (drop m l)) e
-
-pub block-of : (st : Store) (l : Lawful st) (i e : ℕ) → i < count st → 0 < i → e ≡ blockEnd st i → Block st i e
-block-of st l i e h a z =
-    let b = block-parts st l i h a in
-    let w : Block st i (blockEnd st i) =
-    record {
-      first = a;
-      some = block-after st l i h;
-      last = block-last st l i h;
-      below = subst (Deeper (depthOf (getD (st .records) i 0))) (sym (drop-of-take (suc i) (blockEnd st i) (rowsOf st))) (b .deeper);
-      behind = b .beyond;
-    } in
-    subst (Block st i) (sym z) w

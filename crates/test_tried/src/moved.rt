@@ -74,7 +74,8 @@ fn way_to(
     name: &[u8],
 ) -> Way
     requires { ⌜ Lawful (lends words records heads times paths bytes) ⌝ }
-    ensures { λ r. ⌜ ((r .at ≡ 0 → ⊥) → Movable (before words records heads times paths bytes) i (r .end) (r .at) (r .depth) (now (name .entry))) ⌝ }
+    ensures { λ r. ⌜ ((r .at ≡ 0 → ⊥)
+        → Movable (before words records heads times paths bytes) i (r .end) (r .at) (r .depth) (now (name .entry))) ⌝ }
 {
     if !may_rename(words, records, heads, times, paths, bytes, i, name.len()) {
         return Way {

@@ -6,7 +6,6 @@ ghost use Prim.Native.Nat.{_-_, _<_, _≤_};
 ghost use lib.Dec.{T};
 ghost use lib.ListN.{length, getD};
 ghost use Rattle.path.specs.Path.{names, pieces};
-ghost use Rattle.path.specs.Answer.{WholeIs};
 ghost use Rattle.model.specs.Tree.{file, look};
 ghost use Rattle.layout.specs.Store.{count, state};
 ghost use Rattle.layout.specs.Lent.{lends, before};
@@ -22,21 +21,7 @@ use layout::EXTENT_AT;
 use layout::FILE_NUMBERS;
 use layout::HOLDER_AT;
 use layout::NUMBER_WORDS;
-
-// Where the piece that begins at a ends.
-fn piece_end(s: &[u8], a: usize) -> usize
-    requires { ⌜ (a ≤ length (now s)) × (0 < a → getD (now s) (a - 1) 0 ≡ 47) ⌝ }
-    ensures { λ r. ⌜ WholeIs (now (s .entry)) a r ⌝ }
-{
-    let mut j: usize = 0;
-    while j < s.len() - a {
-        if s[a + j] == 47 {
-            return a + j;
-        }
-        j += 1;
-    }
-    a + j
-}
+use path::pieces::piece_end;
 
 // The record of the entry `name` of the directory at record dir; the number of entries where there is none.
 fn child(

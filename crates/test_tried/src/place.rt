@@ -102,7 +102,8 @@ pub fn spot_for(
     name: &[u8],
 ) -> Gap
     requires { ⌜ Lawful (lends words records heads times paths bytes) ⌝ }
-    ensures { λ r. ⌜ ((r .at ≡ 0 → ⊥) → (q : Path) × Vacancy (before words records heads times paths bytes) (r .at) (r .depth) q (now (name .entry))) ⌝ }
+    ensures { λ r. ⌜ ((r .at ≡ 0 → ⊥)
+        → (q : Path) × Vacancy (before words records heads times paths bytes) (r .at) (r .depth) q (now (name .entry))) ⌝ }
 {
     spot_in(words, records, heads, times, paths, bytes, dir, name)
 }

@@ -4,7 +4,7 @@ use mathlib.Core.Path.{refl, sym, _∙_}
 use native.Mathlib.Omega.{arith}
 use Rattle.model.specs.Prog.{bare?}
 use Rattle.edit_room.specs.Extents.{trim}
-use Rattle.store.specs.Shows.{withRecords}
+use Rattle.layout.specs.Lent.{_∘_, withWords, withRecords}
 use Rattle.store.proofs.Asked.{told}
 use borrow.Author.Needs.{needs}
 use Rattle.store.proofs.bare.Statement.{statement}
@@ -19,7 +19,7 @@ is-bare-requires c κs = let p = c .before .before .before .pre in (_, record { 
 returns : tie.Need-returns
 returns c = λ st s h p a.
     let g = c .before .before .before .before .args in
-    let u = withRecords (g .words) (g .records) st in
+    let u = (withWords (g .words) ∘ withRecords (g .records)) st in
     sym (told u s h (bare? p)) ∙ sym (c .is-bare .ensures (trim u) refl refl (h .roomy .lawful) p a)
 
 pub bare-spec : {M : Type 1} → statement M

@@ -3,7 +3,7 @@
 use mathlib.Core.Path.{refl}
 use native.Mathlib.Omega.{arith}
 use Rattle.edit_room.specs.Extents.{trim}
-use Rattle.store.specs.Shows.{withNames}
+use Rattle.layout.specs.Lent.{_∘_, withWords, withRecords, withBytes}
 use Rattle.store.proofs.Looking.{child-told}
 use borrow.Author.Needs.{needs}
 use Rattle.store.proofs.child.Statement.{statement}
@@ -18,7 +18,7 @@ child-requires c κs = let p = c .before .before .before .before .before .pre in
 returns : tie.Need-returns
 returns c = λ st s h p w a y e.
     let g = c .before .before .before .before .before .before .args in
-    let u = withNames (g .words) (g .records) (g .bytes) st in
+    let u = (withWords (g .words) ∘ withRecords (g .records) ∘ withBytes (g .bytes)) st in
     child-told u s h (g .hidden) w p (g .name .now) (c .child .result) y e (λ t d k. c .child .ensures (trim u) refl refl refl (h .roomy .lawful) p t a d k)
 
 pub child-spec : {M : Type 1} → statement M

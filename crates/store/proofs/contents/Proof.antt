@@ -2,7 +2,7 @@
 -- Assumes nothing.
 use mathlib.Core.Path.{refl, sym}
 use Rattle.edit_room.specs.Extents.{trim}
-use Rattle.store.specs.Shows.{withContents}
+use Rattle.layout.specs.Lent.{_∘_, withWords, withRecords, withHeads, withBytes}
 use Rattle.store.proofs.Asked.{contents-told}
 use borrow.Author.Needs.{needs}
 use Rattle.store.proofs.contents.Statement.{statement}
@@ -17,7 +17,7 @@ entry-contents-requires c κs = let p = c .before .before .before .before .befor
 returns : tie.Need-returns
 returns c = λ st s h p a.
     let g = c .before .before .before .before .before .before .args in
-    let u = withContents (g .words) (g .records) (g .heads) (g .bytes) st in
+    let u = (withWords (g .words) ∘ withRecords (g .records) ∘ withHeads (g .heads) ∘ withBytes (g .bytes)) st in
     contents-told u s h p (c .entry-contents .result .now) (c .entry-contents .ensures (trim u) refl (sym (c .before .in-use .ensures)) refl (h .roomy .lawful) p a)
 
 pub contents-spec : {M : Type 1} → statement M

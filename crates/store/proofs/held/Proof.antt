@@ -3,7 +3,7 @@
 use mathlib.Core.Path.{refl, sym, _∙_}
 use Rattle.model.specs.Prog.{open?, held?}
 use Rattle.edit_room.specs.Extents.{trim}
-use Rattle.store.specs.Shows.{withHeld}
+use Rattle.layout.specs.Lent.{_∘_, withWords, withHeads, withBytes}
 use Rattle.store.proofs.Asked.{told}
 use borrow.Author.Needs.{needs}
 use Rattle.store.proofs.held.Statement.{statement}
@@ -18,7 +18,7 @@ held-bytes-requires c κs = let p = c .before .before .before .before .pre in re
 returns : tie.Need-returns
 returns c = λ st s h o e.
     let g = c .before .before .before .before .before .args in
-    let u = withHeld (g .words) (g .heads) (g .bytes) st in
+    let u = (withWords (g .words) ∘ withHeads (g .heads) ∘ withBytes (g .bytes)) st in
     sym (told u s h (held? (g .n))) ∙ c .held-bytes .ensures (trim u) refl (sym (c .before .in-use .ensures)) refl (h .roomy .lawful) o (told u s h (open? (g .n)) ∙ e)
 
 pub held-spec : {M : Type 1} → statement M

@@ -3,7 +3,7 @@
 use mathlib.Core.Path.{refl, _∙_}
 use Rattle.model.specs.Prog.{open?}
 use Rattle.edit_room.specs.Extents.{trim}
-use Rattle.store.specs.Shows.{withPaths}
+use Rattle.layout.specs.Lent.{_∘_, withWords, withPaths}
 use Rattle.store.proofs.Asked.{told}
 use borrow.Author.Needs.{needs}
 use Rattle.store.proofs.kept.Statement.{statement}
@@ -15,7 +15,7 @@ kept-path-requires c κs = search needs
 returns : tie.Need-returns
 returns c = λ st s h o e.
     let g = c .before .before .before .args in
-    let u = withPaths (g .words) (g .paths) st in
+    let u = (withWords (g .words) ∘ withPaths (g .paths)) st in
     c .kept-path .ensures (trim u) refl refl (h .roomy .lawful) o (told u s h (open? (g .n)) ∙ e)
 
 pub kept-spec : {M : Type 1} → statement M

@@ -3,7 +3,7 @@
 use mathlib.Core.Path.{refl, sym, _∙_}
 use Rattle.model.specs.Prog.{kind?}
 use Rattle.edit_room.specs.Extents.{trim}
-use Rattle.store.specs.Shows.{withKinds}
+use Rattle.layout.specs.Lent.{_∘_, withWords, withRecords, withHeads}
 use Rattle.store.proofs.Asked.{told}
 use borrow.Author.Needs.{needs}
 use Rattle.store.proofs.kind.Statement.{statement}
@@ -18,7 +18,7 @@ entry-kind-requires c κs = search needs
 returns : tie.Need-returns
 returns c = λ st s h p a.
     let g = c .before .before .before .before .before .args in
-    let u = withKinds (g .words) (g .records) (g .heads) st in
+    let u = (withWords (g .words) ∘ withRecords (g .records) ∘ withHeads (g .heads)) st in
     sym (told u s h (kind? p)) ∙ c .entry-kind .ensures (trim u) refl (sym (c .before .in-use .ensures)) (h .roomy .lawful) p a
 
 pub kind-spec : {M : Type 1} → statement M

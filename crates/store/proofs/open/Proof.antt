@@ -4,7 +4,7 @@ use mathlib.Core.Path.{refl, subst}
 use Rattle.ask_entry.specs.declared.Number.{Number}
 use Rattle.ask_entry.specs.Reads as reads
 use Rattle.edit_room.specs.Extents.{trim}
-use Rattle.store.specs.Shows.{withWords}
+use Rattle.layout.specs.Lent.{withWords}
 use Rattle.store.proofs.Asked.{closed-told, open-told}
 use borrow.Author.Needs.{needs}
 use Rattle.store.proofs.open.Statement.{statement}

@@ -3,7 +3,7 @@
 use mathlib.Core.Path.{refl}
 use native.Mathlib.Omega.{arith}
 use Rattle.edit_room.specs.Extents.{trim}
-use Rattle.store.specs.Shows.{withWords}
+use Rattle.layout.specs.Lent.{withWords}
 use Rattle.store.proofs.Looking.{root-told}
 use borrow.Author.Needs.{needs}
 use Rattle.store.proofs.root.Statement.{statement}

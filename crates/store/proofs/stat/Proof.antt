@@ -3,7 +3,7 @@
 use mathlib.Core.Path.{refl, sym, _∙_}
 use Rattle.model.specs.Prog.{stat?}
 use Rattle.edit_room.specs.Extents.{trim}
-use Rattle.store.specs.Shows.{withStats}
+use Rattle.layout.specs.Lent.{_∘_, withWords, withRecords, withHeads, withTimes}
 use Rattle.store.proofs.Asked.{told}
 use borrow.Author.Needs.{needs}
 use Rattle.store.proofs.stat.Statement.{statement}
@@ -18,7 +18,7 @@ entry-stat-requires c κs = search needs
 returns : tie.Need-returns
 returns c = λ st s h p a.
     let g = c .before .before .before .before .before .args in
-    let u = withStats (g .words) (g .records) (g .heads) (g .times) st in
+    let u = (withWords (g .words) ∘ withRecords (g .records) ∘ withHeads (g .heads) ∘ withTimes (g .times)) st in
     sym (told u s h (stat? p)) ∙ c .entry-stat .ensures (trim u) refl (sym (c .before .in-use .ensures)) refl (h .roomy .lawful) p a
 
 pub stat-spec : {M : Type 1} → statement M

@@ -1,0 +1,12 @@
+pub mod Blocks
+pub mod Carrying
+pub mod Entering
+pub mod Fitting
+pub mod Chaining
+pub mod Resizing
+pub mod Inserting
+pub mod Rooting
+pub mod Removing
+pub mod Replacing
+pub mod Ways
+pub mod Nesting
