@@ -12,14 +12,13 @@ use Rattle.model.specs.Calls.States.{State, worldOf}
 use Rattle.model.proofs.Alike.Runs.{answer-after}
 use Rattle.model.proofs.Entries.{clash}
 use Rattle.model.proofs.Sound.Entries.{cut-some}
-use Rattle.layout.specs.Store.{Store, count, state}
+use Rattle.layout.specs.Store.{Store, state}
 use Rattle.layout.proofs.Edited.Shapes.{lawful-shape}
 use Rattle.edit_room.specs.Extents.{trim}
-use Rattle.ask_find.specs.declared.Spot.{Spot}
 use Rattle.ask_find.specs.declared.Look.{Look}
 use Rattle.ask_find.specs.declared.Look.the-variants.{Found, Missing}
 use Rattle.ask_find.specs.Spots.{Hides, nothing, entry, Directory, Looks, Rooted}
-use Rattle.store.specs.Shows.{Shows, Stands, says, Asked, whole, without, There, LookIs, RootIs}
+use Rattle.store.specs.Shows.{Shows, says, Asked, whole, without, LookIs, RootIs}
 use Rattle.store.proofs.Asked.{told}
 
 -- ---- the answer by the tree

@@ -1,11 +1,11 @@
 -- An edit of the words of the slots so far, with the others put back behind them, is an edit of the whole store: what it spells of the
 -- state that is read back it shows of every state that the store showed, since edits keep states alike.
 -- Assumes nothing.
-use mathlib.Core.List.{List, [], _∷_, _++_}
+use mathlib.Core.List.{List, [], _++_}
 use mathlib.Core.Path.{_≡_, refl, sym, ap, _∙_, subst}
 use Prim.Native.Nat.{ℕ, suc}
 use native.Mathlib.Omega.{arith}
-use lib.ListN.{length, take, drop, getD, take-append-drop}
+use lib.ListN.{length, take, drop, take-append-drop}
 use lib.Seq.{take-append-seam}
 use Rattle.model.specs.Tree.{Path}
 use Rattle.model.specs.Prog.{Edit}

@@ -1,8 +1,8 @@
 -- Edits one after the other. A call's program changes one world from edit to edit; a store shows the state after each. Files that nothing
 -- names or holds are dropped after each edit in the one and at the end in the other, and no state tells the difference.
 -- Assumes nothing.
-use mathlib.Core.List.{List, [], _∷_}
-use mathlib.Core.Path.{_≡_, refl, sym, ap, _∙_, subst}
+use mathlib.Core.List.{List}
+use mathlib.Core.Path.{refl}
 use native.Mathlib.Omega.{arith}
 use Rattle.model.specs.Prog.{World, Edit}
 use Rattle.model.specs.Calls.States.{State, worldOf, stateOf}

@@ -4,7 +4,7 @@
 use mathlib.Core.Bool.{Bool, true, false, cond}
 use mathlib.Core.Option.{Option, none, some}
 use mathlib.Core.Path.{_≡_, refl, sym, ap, _∙_, subst}
-use Prim.Native.Nat.{ℕ, suc, _+_, _-_, _*_, _≤_, _<_}
+use Prim.Native.Nat.{ℕ, _+_, _-_, _*_, _<_}
 use native.Mathlib.Decide.{ℕ-discrete}
 use native.Mathlib.Omega.{arith}
 use lib.Dec.{eqb}
@@ -15,14 +15,13 @@ use Rattle.model.specs.Prog.{Kind, aDir, aFile, aLink, kindNumber, Position, ki
 use Rattle.model.specs.Calls.States.{State, worldOf, edited}
 use Rattle.model.proofs.Entries.{clash, some-inj}
 use Rattle.layout.specs.Fields.{slotOf}
-use Rattle.layout.specs.Store.{Store, count, holder, kindAt, state}
+use Rattle.layout.specs.Store.{Store, holder, kindAt, state}
 use Rattle.layout.specs.Lawful.{Lawful}
 use Rattle.layout.specs.Alike.{Spells, HasSlot}
 use Rattle.layout.proofs.Slotted.{file-at}
 use Rattle.layout.proofs.Entered.{Stood, stood}
 use Rattle.layout.proofs.Tables.{open-there}
 use Rattle.ask_find.specs.declared.Spot.{Spot}
-use Rattle.ask_find.specs.Paths.{slotAt, pathAt}
 use Rattle.ask_find.proofs.Records.{slot-low, path-look, path-slot}
 use Rattle.ask_entry.specs.Reads.{kindBy}
 use Rattle.ask_entry.proofs.Stats.{kind-told}

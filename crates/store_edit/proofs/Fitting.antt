@@ -4,7 +4,7 @@
 use mathlib.Core.List.{List, [], _∷_}
 use mathlib.Core.Option.{Option, none, some}
 use mathlib.Core.Path.{_≡_, refl, sym, ap, _∙_, subst}
-use Prim.Native.Nat.{ℕ, suc, _+_, _-_, _≤_, _<_}
+use Prim.Native.Nat.{ℕ, suc, _-_, _<_}
 use native.Mathlib.Omega.{arith}
 use lib.ListN.{length, take, getD, replicate, length-append, length-take, length-replicate}
 use Rattle.text.specs.Utf8.{Bytes}
@@ -18,13 +18,13 @@ use Rattle.model.proofs.Alike.Runs.{even-start, even-used}
 use Rattle.model.proofs.Space.After.{after-write, after-resize-held}
 use Rattle.model.proofs.Space.States.{Spaced, spaced}
 use Rattle.layout.specs.Fields.{lenOf, slotOf}
-use Rattle.layout.specs.Store.{Store, holder, kindAt, bytesAt, state}
+use Rattle.layout.specs.Store.{Store, holder, bytesAt, state}
 use Rattle.layout.specs.Lawful.{Lawful}
 use Rattle.layout.proofs.Edited.Shapes.{lawful-shape}
 use Rattle.layout.proofs.Entered.{has-file}
 use Rattle.layout.proofs.Slotted.{bytes-length}
 use Rattle.layout.proofs.Tables.{fileAt, open-there}
-use Rattle.layout.proofs.Used.{entries-used, bytes-used}
+use Rattle.layout.proofs.Used.{bytes-used}
 use Rattle.ask_find.specs.declared.Spot.{Spot}
 use Rattle.ask_entry.proofs.Opened.{word-low, held-bytes}
 use Rattle.edit_room.specs.Extents.{trim}

@@ -2,43 +2,39 @@
 -- the kinds of their slots change; the state with the entry fits, so there is a free slot and room for its name and bytes. The entry then
 -- has the record of its place, and its name stands where the names before it end.
 -- Assumes nothing.
-use mathlib.Core.Bool.{Bool, true, false, cond}
+use mathlib.Core.Bool.{Bool, false, cond}
 use mathlib.Core.List.{List, [], _∷_, _++_, append-assoc}
 use mathlib.Core.Option.{Option, none, some}
 use mathlib.Core.Path.{_≡_, refl, sym, ap, _∙_, subst}
 use Prim.Native.Nat.{ℕ, zero, suc, _+_, _-_, _≤_, _<_}
 use native.Mathlib.Decide.{ℕ-discrete}
-use native.Mathlib.Numerals.{add-one}
 use native.Mathlib.Omega.{arith}
-use lib.Dec.{T, eqb}
-use lib.IntN.{ℤ}
-use lib.ListN.{length, take, drop, getD, length-append, length-drop, take-append-drop}
-use lib.Seq.{getD-take, length-take-le, take-at, take-append-seam}
-use borrow.Author.Tests.{eq-eqb, ne-eqb}
+use lib.Dec.{T}
+use lib.ListN.{length, take, drop, getD, length-append, take-append-drop}
+use lib.Seq.{getD-take, length-take-le, take-at}
+use borrow.Author.Tests.{ne-eqb}
 use Rattle.text.specs.Utf8.{Bytes}
 use Rattle.path.specs.Path.{Name}
 use Rattle.model.specs.Tree.{Path, Node, Time, look, nameLength}
 use Rattle.model.specs.Prog.{nodeKind, kind?, answer, onSome}
 use Rattle.model.specs.Rules.{nameOk}
-use Rattle.model.specs.Calls.States.{State, worldOf, edited}
+use Rattle.model.specs.Calls.States.{State, edited}
 use Rattle.model.proofs.Demand.Spacing.{last-name}
 use Rattle.model.proofs.Entries.{clash}
 use Rattle.model.proofs.Space.After.{after-make, after-create, after-symlink}
 use Rattle.model.proofs.Space.States.{Uses}
 use Rattle.layout.specs.Fields.{kindOf}
 use Rattle.layout.specs.Rows.{Row, nameTotal, pathOf}
-use Rattle.layout.specs.Slots.{total}
 use Rattle.layout.specs.Store.{Store, most, room, count, extent, live, rowsOf, kindAt, state}
 use Rattle.layout.specs.Lawful.{follows, uses, Lawful}
-use Rattle.layout.specs.Parts.{pathAfter, dirAfter, Gap}
+use Rattle.layout.specs.Parts.{pathAfter, Gap}
 use Rattle.layout.proofs.Edited.Parted.{Has, has-first, dir-slots, after-both}
 use Rattle.layout.proofs.Named.{nameSum, name-offset}
 use Rattle.layout.proofs.Roots.{all-slots}
-use Rattle.layout.proofs.Used.{entries-used, bytes-used, live-length}
+use Rattle.layout.proofs.Used.{entries-used, bytes-used}
 use Rattle.layout.proofs.Walks.{SlotsIn}
 use Rattle.ask_find.specs.declared.Gap as place
 use Rattle.ask_find.specs.declared.Spot.{Spot}
-use Rattle.ask_find.specs.Paths.{pathAt}
 use Rattle.ask_find.specs.Spots.{At, Room, between, instead, Vacant}
 use Rattle.ask_find.proofs.Records.{rows-long, total-live, path-look}
 use Rattle.edit_entry.specs.Growth.{newRow, newMeta}

@@ -2,18 +2,17 @@
 -- one for an entry of its name, and the name is missing in the state without it.
 -- Assumes nothing.
 use mathlib.Core.List.{List, [], _∷_, _++_, append-nil}
-use mathlib.Core.Option.{none, some}
+use mathlib.Core.Option.{none}
 use mathlib.Core.Path.{_≡_, refl, sym, ap, _∙_, subst}
-use Prim.Native.Nat.{ℕ, suc, _+_, _≤_, _<_}
+use Prim.Native.Nat.{ℕ, _+_, _≤_, _<_}
 use native.Mathlib.Omega.{arith}
-use lib.ListN.{length, take, drop, getD, length-append, length-drop}
+use lib.ListN.{length, take, drop, getD, length-append}
 use lib.Seq.{take-at, drop-at, length-take-le}
 use Rattle.path.specs.Path.{Name}
-use Rattle.model.specs.Tree.{Path, look, behind, cut}
+use Rattle.model.specs.Tree.{Path, behind}
 use Rattle.model.specs.Prog.{kind?, answer, remove, apply}
 use Rattle.model.specs.Calls.States.{State, edited}
 use Rattle.model.proofs.Entries.{behind-self, cut-in}
-use Rattle.model.proofs.Sound.Entries.{snoc-root}
 use Rattle.layout.specs.Rows.{Row, nameTotal}
 use Rattle.layout.specs.Store.{Store, lent, count, rowsOf, kindAt}
 use Rattle.layout.specs.Lawful.{uses, Lawful}
@@ -21,9 +20,7 @@ use Rattle.layout.specs.Parts.{Gap}
 use Rattle.layout.proofs.Edited.Parted.{Has, has-first}
 use Rattle.layout.proofs.Named.{nameSum}
 use Rattle.ask_find.specs.declared.Spot.{Spot}
-use Rattle.ask_find.specs.Paths.{pathAt}
 use Rattle.ask_find.specs.Spots.{blockEnd, between}
-use Rattle.ask_find.proofs.Blocks.{block-last, block-after}
 use Rattle.ask_find.proofs.Instead.{gap-instead, not-root}
 use Rattle.ask_find.proofs.Records.{rows-long}
 use Rattle.edit_entry.specs.Removal.{Block, RemovedAt}
@@ -31,9 +28,9 @@ use Rattle.edit_room.specs.Extents.{trim, Roomy, Resized, Released}
 use Rattle.store.specs.Shows.{Shows, Stands, says}
 use Rattle.store_edit.specs.Entries.{placeOf, FreePlace}
 use Rattle.store_edit.proofs.Blocks.{block-of}
-use Rattle.store_edit.proofs.Carrying.{whole, trim-whole, shows-released}
+use Rattle.store_edit.proofs.Carrying.{whole, trim-whole}
 use Rattle.store_edit.proofs.Inserting.{gap-by, gap-resized, names-upto}
-use Rattle.store_edit.proofs.Resizing.{count-resized, rows-resized}
+use Rattle.store_edit.proofs.Resizing.{count-resized}
 
 -- the state without the entry has none of its name
 pub removed-missing : (s : State) (p : Path) → says (kind? p) (edited (remove p) s) ≡ none

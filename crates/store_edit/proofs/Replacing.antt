@@ -2,21 +2,21 @@
 -- so the tree with the link over the entry is the one with the link once the entry is out.
 -- Assumes nothing.
 use mathlib.Core.Bool.{Bool, true, false, not}
-use mathlib.Core.List.{List, [], _∷_, _++_, append-nil}
+use mathlib.Core.List.{[], _∷_, _++_, append-nil}
 use mathlib.Core.Option.{Option, none, some}
 use mathlib.Core.Path.{_≡_, refl, sym, ap, _∙_, subst}
 use Prim.Native.Nat.{ℕ}
 use lib.ListN.{length, getD}
 use Rattle.text.specs.Utf8.{Bytes}
 use Rattle.path.specs.Path.{Name}
-use Rattle.model.specs.Tree.{Path, Meta, Node, dir, file, link, Entries, samePath, orElse, keepIf, look, behind, less, put, cut, unlessBehind}
-use Rattle.model.specs.Prog.{World, Kind, nodeKind, aDir, kind?, answer, onSome, symlink, remove, apply}
+use Rattle.model.specs.Tree.{Path, Meta, Node, dir, link, Entries, samePath, orElse, keepIf, look, behind, less, put, cut, unlessBehind}
+use Rattle.model.specs.Prog.{World, Kind, nodeKind, kind?, answer, onSome, symlink, remove, apply}
 use Rattle.model.specs.Shaped.{Shaped}
 use Rattle.model.specs.Calls.States.{State, worldOf, stateOf, edited}
 use Rattle.model.proofs.Demand.Joining.{shaped-tidy}
 use Rattle.model.proofs.Demand.Keeping.{Empty}
 use Rattle.model.proofs.Demand.Tidy.{Tidy, tidy-edit}
-use Rattle.model.proofs.Entries.{clash, some-inj, look-none, look-here, behind-is, path-yes}
+use Rattle.model.proofs.Entries.{clash, look-none, look-here, behind-is, path-yes}
 use Rattle.model.proofs.Space.Edits.{Leaf}
 use Rattle.model.proofs.Space.Steps.{leaf-other}
 use Rattle.layout.specs.Fields.{depthOf}
@@ -26,7 +26,7 @@ use Rattle.ask_find.specs.declared.Spot.{Spot}
 use Rattle.ask_find.specs.Paths.{slotAt}
 use Rattle.ask_find.proofs.Records.{path-look, path-depth}
 use Rattle.edit_room.specs.Extents.{trim}
-use Rattle.store.specs.Shows.{Shows, Stands, says}
+use Rattle.store.specs.Shows.{Shows, Stands}
 use Rattle.store.proofs.Asked.{told}
 use Rattle.store_edit.specs.Turns.{Fits}
 use Rattle.store_edit.specs.Entries.{FreePlace, MayMake, placeOf, RemoveLeft, MayReplace}

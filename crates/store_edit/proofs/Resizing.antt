@@ -13,7 +13,6 @@ use Rattle.layout.specs.Store.{Store, lent, most, room, count, live, rowsOf}
 use Rattle.layout.specs.Parts.{pathAfter}
 use Rattle.edit_room.specs.Extents.{trim, Roomy, Resized, Reserved, Released}
 use Rattle.ask_find.specs.declared.Spot.{Spot}
-use Rattle.ask_find.specs.Spots.{At}
 use Rattle.store.specs.Shows.{Stands}
 
 module _ (st u : Store) (r : Resized st u) where

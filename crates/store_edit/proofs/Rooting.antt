@@ -1,14 +1,14 @@
 -- The root of an empty tree: a state without one is read back from a store without entries, which has a free slot once one is reserved,
 -- and the root is the first record.
 -- Assumes nothing.
-use mathlib.Core.List.{List, [], _∷_}
-use mathlib.Core.Option.{Option, none, some}
+use mathlib.Core.List.{[], _∷_}
+use mathlib.Core.Option.{none}
 use mathlib.Core.Path.{_≡_, refl, sym, ap, _∙_, subst}
-use Prim.Native.Nat.{ℕ, zero, suc, _≤_, _<_}
+use Prim.Native.Nat.{ℕ, _≤_, _<_}
 use native.Mathlib.Decide.{ℕ-discrete}
 use native.Mathlib.Omega.{arith}
-use lib.ListN.{length, take}
-use Rattle.model.specs.Tree.{Path, Meta, Time, Entries, dir, samePath, look, less, put}
+use lib.ListN.{length}
+use Rattle.model.specs.Tree.{Meta, Time, Entries, samePath, look, put}
 use Rattle.model.specs.Prog.{onSome, make, apply}
 use Rattle.model.specs.Alike.{Alike}
 use Rattle.model.specs.Calls.States.{State, edited}
@@ -18,7 +18,6 @@ use Rattle.model.proofs.Space.After.{after-make}
 use Rattle.layout.specs.Rows.{nameTotal}
 use Rattle.layout.specs.Store.{Store, most, count, state}
 use Rattle.layout.specs.Lawful.{Lawful}
-use Rattle.layout.specs.Alike.{Spells}
 use Rattle.layout.proofs.Used.{entries-used}
 use Rattle.ask_find.specs.Spots.{At}
 use Rattle.ask_find.proofs.Records.{path-look}

@@ -8,9 +8,8 @@ use Prim.Native.Nat.{ℕ}
 use lib.ListN.{length}
 use Rattle.text.specs.Utf8.{Bytes}
 use Rattle.path.specs.Path.{Name}
-use Rattle.model.specs.Tree.{Path, Time, Meta}
+use Rattle.model.specs.Tree.{Path, Meta}
 use Rattle.model.specs.Prog.{aDir, kind?, Edit, make, symlink, remove}
-use Rattle.model.specs.Operations.Steps.{fresh}
 use Rattle.model.specs.Calls.States.{State, edited}
 use Rattle.layout.specs.Store.{Store}
 use Rattle.ask_find.specs.declared.Spot.{Spot}

@@ -1,5 +1,4 @@
 // An entry put into the tree or taken out of it.
-ghost use Prim.Native.Nat.{_<_};
 ghost use lib.Dec.{T};
 ghost use mathlib.Core.List.{[], _∷_, _++_};
 ghost use Rattle.path.specs.Path.{Name};

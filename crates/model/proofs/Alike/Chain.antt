@@ -2,24 +2,22 @@
 -- and a number stand once in a world, and names and numbers of alike states lead to files in both. So edits of alike states leave alike
 -- states, edit by edit, and it does not matter whether files that nothing names or holds are dropped after each or after the last.
 -- Assumes nothing.
-use mathlib.Core.Bool.{Bool, true, false, _||_, false≢true}
+use mathlib.Core.Bool.{true, false, false≢true}
 use mathlib.Core.List.{List, [], _∷_}
 use mathlib.Core.Logic.{_⊎_, inl, inr}
 use mathlib.Core.Option.{Option, none, some}
 use mathlib.Core.Path.{_≡_, refl, sym, ap, _∙_, subst}
 use Prim.Native.Nat.{ℕ}
-use lib.Dec.{T, eqb}
 use borrow.Author.Tests.{eq-eqb, eqb-true}
 use Rattle.model.specs.Tree.{Path, File, Node, dir, file, link, Entries, Files, Open, look, fileOf, openOf}
 use Rattle.model.specs.Prog.{World, Ask, answer, Edit, apply, onSome}
-use Rattle.model.specs.Calls.{State, isNamed, isHeld, worldOf, stateOf}
+use Rattle.model.specs.Calls.{State, worldOf, stateOf}
 use Rattle.model.specs.Fuller.{shownFile, shownNode, shown, StandsAt, StandsRemoved}
 use Rattle.model.specs.Alike.{sameFile, oneFile, Alike}
 use Rattle.model.specs.Shaped.{HasFile, Shaped}
-use Rattle.model.proofs.Entries.{clash, some-inj, is-true, of-true, look-none}
-use Rattle.model.proofs.Demand.Contents.{at-named, by-held, or-left, or-right}
+use Rattle.model.proofs.Entries.{clash, some-inj, look-none}
 use Rattle.model.proofs.Demand.Joining.{shaped-tidy}
-use Rattle.model.proofs.Demand.Keeping.{kept-file, kept-once, Empty}
+use Rattle.model.proofs.Demand.Keeping.{kept-once, Empty}
 use Rattle.model.proofs.Demand.Over.{erase, file-inj, Paired, atPlace, byNumber, SameNumber, Over}
 use Rattle.model.proofs.Demand.Places.{Place, inTree, inHand, seen}
 use Rattle.model.proofs.Demand.Tidy.{Tidy, tidy-edit}

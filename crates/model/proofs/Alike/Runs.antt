@@ -1,12 +1,12 @@
 -- No call tells alike states apart, 15 and 16 included, and every edit keeps states alike: each of two worlds has what the other has,
 -- so no question is left out in either direction. Contracts of edits chain by this.
 -- Assumes nothing.
-use mathlib.Core.Bool.{Bool, true, false, _&&_, _||_, not}
+use mathlib.Core.Bool.{Bool, true, false, _&&_, not}
 use mathlib.Core.List.{List, [], _∷_, _++_}
 use mathlib.Core.Logic.{_⊎_, inl, inr}
 use mathlib.Core.Option.{Option, none, some}
 use mathlib.Core.Path.{_≡_, refl, sym, ap, ap₂, _∙_, subst}
-use Prim.Native.Nat.{ℕ, zero, suc, _≤_}
+use Prim.Native.Nat.{ℕ, zero, suc}
 use native.Mathlib.Omega.{arith}
 use lib.Dec.{eqb, leb}
 use native.Mathlib.Decide.{ℕ-discrete}
@@ -15,7 +15,7 @@ use Rattle.path.specs.Path.{Name}
 use Rattle.model.specs.Tree.{Path, Node, dir, file, link, Entries, look, orElse, samePath, under, before, insertBy, insert, inOrder, nameLength, targetLength, contentsLength, linksIn}
 use Rattle.model.specs.Prog.{World, Stat, Ask, kind?, stat?, bytes?, target?, list?, bare?, open?, held?, here?, mask?, Edit, make, create, symlink, change, remove, take, give, opens, close, seek, changeHeld, go, umask, apply, answer, statOf, child, children, listing, Prog, ret, stop, ask, edit, Out, done, refused, run}
 use Rattle.model.specs.Operations.{Reply, isSome}
-use Rattle.model.specs.Calls.{State, Call, entriesUsed, bytesUsed, givenTo, screen, program, worldOf, stateOf, edited, accepted, refusal, Outcome, outcome, settleBy, settle, decideBy, performWith, perform}
+use Rattle.model.specs.Calls.{State, Call, entriesUsed, bytesUsed, givenTo, screen, program, worldOf, stateOf, edited, accepted, refusal, Outcome, settleBy, settle, decideBy, performWith, perform}
 use Rattle.model.specs.Rules.{Obeys}
 use Rattle.model.specs.Fuller.{shown, misses, lacksOne, hasMore, exceptsAsk, Fuller}
 use Rattle.model.specs.Alike.{sameFile, oneFile, Alike}
@@ -23,7 +23,7 @@ use Rattle.model.specs.Shaped.{Shaped}
 use Rattle.model.proofs.Demand.Asking.{asked}
 use Rattle.model.proofs.Demand.Bounds.{any-bound}
 use Rattle.model.proofs.Demand.Contents.{kept-weigh}
-use Rattle.model.proofs.Demand.Calls.{Set, set-edit, Joined, joined, more-links, screen-alike}
+use Rattle.model.proofs.Demand.Calls.{Set, set-edit, joined, more-links, screen-alike}
 use Rattle.model.proofs.Entries.{clash, under-look, look-none, look-here}
 use Rattle.model.proofs.Demand.Joining.{shaped, shaped-over, shaped-tidy}
 use Rattle.model.proofs.Demand.Keeping.{dropped, over-dropped, tidy-dropped, over-swept, tidy-swept, kept-kept}

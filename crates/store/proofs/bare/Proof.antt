@@ -6,7 +6,6 @@ use Rattle.model.specs.Prog.{bare?}
 use Rattle.edit_room.specs.Extents.{trim}
 use Rattle.layout.specs.Lent.{_∘_, withWords, withRecords}
 use Rattle.store.proofs.Asked.{told}
-use borrow.Author.Needs.{needs}
 use Rattle.store.proofs.bare.Statement.{statement}
 use Rattle.store.proofs.bare.Tie as tie
 

@@ -1,7 +1,6 @@
 -- `child` meets its contract: what is found or missing in the store is so in each state that it shows.
 -- Assumes nothing.
 use mathlib.Core.Path.{refl}
-use native.Mathlib.Omega.{arith}
 use Rattle.edit_room.specs.Extents.{trim}
 use Rattle.layout.specs.Lent.{_∘_, withWords, withRecords, withBytes}
 use Rattle.store.proofs.Looking.{child-told}

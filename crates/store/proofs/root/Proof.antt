@@ -1,7 +1,6 @@
 -- `root` meets its contract: the root of the store is that of each state that it shows.
 -- Assumes nothing.
 use mathlib.Core.Path.{refl}
-use native.Mathlib.Omega.{arith}
 use Rattle.edit_room.specs.Extents.{trim}
 use Rattle.layout.specs.Lent.{withWords}
 use Rattle.store.proofs.Looking.{root-told}

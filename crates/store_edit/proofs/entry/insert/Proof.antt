@@ -1,14 +1,12 @@
 -- `insert` meets its contract: a slot is reserved, the entry is put at its place, free slots at the end are given up.
 -- Assumes nothing.
 use mathlib.Core.List.{[], _∷_, _++_}
-use mathlib.Core.Path.{refl, sym, subst}
-use native.Mathlib.Omega.{arith}
+use mathlib.Core.Path.{refl, sym}
 use lib.Seq.{length-take-le}
 use mir.Syntax.{w64}
 use mir.ValLaws.{toZ-ofZ}
 use Rattle.layout.specs.Lent.{_∘_, withWords, withRecords, withHeads, withTimes, withBytes}
 use Rattle.edit_entry.specs.Insertion.{insertion}
-use Rattle.edit_room.specs.Extents.{trim}
 use Rattle.edit_room.proofs.Parting.{part-within}
 use Rattle.store_edit.proofs.Carrying.{shows-whole, shows-resized, shows-released, roomy-of}
 use Rattle.store_edit.proofs.Inserting.{insert-may, same-inserted, stands-new}

@@ -1,14 +1,13 @@
 -- `make_root` meets its contract: a slot is reserved, the root is the first record, free slots at the end are given up.
 -- Assumes nothing.
 use mathlib.Core.List.{[], _∷_}
-use mathlib.Core.Path.{refl, sym}
+use mathlib.Core.Path.{sym}
 use lib.Seq.{length-take-le}
 use mir.Syntax.{w64}
 use mir.ValLaws.{toZ-ofZ}
 use Rattle.model.specs.Prog.{make}
 use Rattle.model.specs.Operations.Steps.{fresh}
 use Rattle.layout.specs.Lent.{_∘_, withWords, withRecords, withHeads, withTimes, withBytes}
-use Rattle.edit_room.specs.Extents.{trim}
 use Rattle.edit_room.proofs.Parting.{part-within}
 use Rattle.store_edit.proofs.Carrying.{shows-whole, shows-resized, shows-released, roomy-of}
 use Rattle.store_edit.proofs.Resizing.{stands-released}

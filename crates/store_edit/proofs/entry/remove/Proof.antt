@@ -2,7 +2,6 @@
 -- up.
 -- Assumes nothing.
 use mathlib.Core.List.{[], _∷_, _++_}
-use mathlib.Core.Path.{refl}
 use Rattle.model.specs.Prog.{remove}
 use Rattle.layout.specs.Lent.{_∘_, withWords, withRecords, withHeads, withBytes}
 use Rattle.edit_room.specs.Extents.{trim}

@@ -1,8 +1,7 @@
 -- `resize_held` meets its contract: the state with so many bytes fits, so there is room for them.
 -- Assumes nothing.
 use mathlib.Core.List.{[], _∷_}
-use mathlib.Core.Path.{_≡_, refl, sym, ap, _∙_}
-use native.Mathlib.Omega.{arith}
+use mathlib.Core.Path.{refl, ap}
 use Rattle.text.specs.Utf8.{Bytes}
 use Rattle.model.specs.Tree.{resize}
 use Rattle.model.specs.Prog.{changeHeld}
