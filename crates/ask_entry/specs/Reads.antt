@@ -4,7 +4,7 @@ use mathlib.Core.Bool.{cond}
 use mathlib.Core.List.{List}
 use mathlib.Core.Option.{none, some}
 use mathlib.Core.Path.{_≡_}
-use Prim.Native.Nat.{ℕ, zero, suc}
+use Prim.Native.Nat.{ℕ, zero, suc, _<_}
 use lib.Dec.{T, eqb}
 use lib.IntN.{ℤ}
 use lib.ListN.{getD}
@@ -42,12 +42,12 @@ statFrom r =
 -- the number is that of the kind of the entry at the spot
 abbrev pub TellsKind : List ℕ → List ℕ → Spot → ℕ → Type 0
 TellsKind ws hs s r =
-    (st : Store) → st .records ≡ ws → st .heads ≡ hs → Lawful st → (p : Path) → At st s p → answer (kind? p) (worldIn st) ≡ some (kindFrom r)
+    (r < 3) × ((st : Store) → st .records ≡ ws → st .heads ≡ hs → Lawful st → (p : Path) → At st s p → answer (kind? p) (worldIn st) ≡ some (kindFrom r))
 
 -- the struct has its metadata
 abbrev pub TellsStat : List ℕ → List ℕ → List ℤ → Spot → shown.Stat → Type 0
 TellsStat ws hs ts s r =
-    (st : Store) → st .records ≡ ws → st .heads ≡ hs → st .times ≡ ts → Lawful st → (p : Path) → At st s p → answer (stat? p) (worldIn st) ≡ some (statFrom r)
+    (r .kind < 3) × ((st : Store) → st .records ≡ ws → st .heads ≡ hs → st .times ≡ ts → Lawful st → (p : Path) → At st s p → answer (stat? p) (worldIn st) ≡ some (statFrom r))
 
 -- the kind of an entry whose slot has that kind
 abbrev pub kindBy : ℕ → Kind

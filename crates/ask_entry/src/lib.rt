@@ -79,7 +79,7 @@ fn part<'a>(s: &'a [u8], a: usize, n: usize) -> &'a [u8]
 
 // The number of the kind in a slot's word.
 fn kind_number(h: u64) -> u8
-    ensures { λ r. ⌜ kindFrom r ≡ kindBy (kindOf h) ⌝ }
+    ensures { λ r. ⌜ (r < 3) × (kindFrom r ≡ kindBy (kindOf h)) ⌝ }
 {
     let k = kind_of(h);
     if k == 1 {
@@ -104,7 +104,7 @@ fn file_size(h: u64) -> usize
 // What the metadata of an entry with the slot k shows.
 fn slot_stat(heads: &[u64], times: &[i64], k: usize) -> Stat
     requires { ⌜ k < 1099511627776 ⌝ }
-    ensures { λ r. ⌜ statFrom r ≡ statAt (lent [] [] (now (heads .entry)) (now (times .entry)) [] []) k ⌝ }
+    ensures { λ r. ⌜ (r .kind < 3) × (statFrom r ≡ statAt (lent [] [] (now (heads .entry)) (now (times .entry)) [] []) k) ⌝ }
 {
     let h = word_at(heads, k);
     let t = 4 * k;

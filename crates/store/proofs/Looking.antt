@@ -5,6 +5,7 @@ use mathlib.Core.List.{[], _∷_, _++_}
 use mathlib.Core.Option.{Option, none, some}
 use mathlib.Core.Path.{_≡_, refl, sym, ap, _∙_}
 use Prim.Native.Nat.{ℕ}
+use native.Mathlib.Omega.{arith}
 use Rattle.path.specs.Path.{Name}
 use Rattle.model.specs.Tree.{Path, Node, Entries, look, behind, cut}
 use Rattle.model.specs.Prog.{World, Kind, aDir, nodeKind, targetOf, onSome, Ask, kind?, target?, answer, take, apply}
@@ -12,7 +13,7 @@ use Rattle.model.specs.Calls.States.{State, worldOf}
 use Rattle.model.proofs.Alike.Runs.{answer-after}
 use Rattle.model.proofs.Entries.{clash}
 use Rattle.model.proofs.Sound.Entries.{cut-some}
-use Rattle.layout.specs.Store.{Store, state}
+use Rattle.layout.specs.Store.{Store, count, state}
 use Rattle.layout.proofs.Edited.Shapes.{lawful-shape}
 use Rattle.edit_room.specs.Extents.{trim}
 use Rattle.ask_find.specs.declared.Look.{Look}
@@ -95,8 +96,11 @@ module _ (u : Store) (s : State) (h : Shows u s) where
       (t .gone (p ++ (x ∷ [])) (r .0), r .1)
 
   pub root-told : (a : Look) → Rooted (trim u) a → RootIs u s a
-  root-told (Found k) f = λ i w n y e.
-      let t = asked i w [] n y e in
-      let r = f i (t .tree) (t .hides) in
-      record { at = r .at; kind = t .kinds [] (r .same); target = t .targets [] (r .same) }
+  root-told (Found k) f = (
+    f (count u) (state (trim u) .tree) (nothing (omega arith) refl) .at,
+    λ i w n y e.
+        let t = asked i w [] n y e in
+        let r = f i (t .tree) (t .hides) in
+        record { at = r .at; kind = t .kinds [] (r .same); target = t .targets [] (r .same) },
+  )
   root-told (Missing g) f = (sym (told u s h (kind? [])) ∙ no-kind (worldOf (state (trim u))) [] (f .0), f .1)

@@ -91,7 +91,7 @@ abbrev pub ChildIs : Lending → Spot → Name → ℕ → Look → Type 0
 ChildIs l spot x h r =
     Of l (λ st s. (p : Path) (w : World) → Stands st spot p → Asked st s h w → answer (kind? p) w ≡ some aDir → LookIs st s w h p x r)
 
--- the root, where there is one; a gap is the place for it
+-- the root, which is there; or it is not, and no entry is
 abbrev pub RootIs : Store → State → Look → Type 0
-RootIs st s (Found spot) = (h : ℕ) (w : World) (k : Kind) → Asked st s h w → answer (kind? []) w ≡ some k → There st s w [] spot
+RootIs st s (Found spot) = Stands st spot [] × ((h : ℕ) (w : World) (k : Kind) → Asked st s h w → answer (kind? []) w ≡ some k → There st s w [] spot)
 RootIs st s (Missing gap) = (says (kind? []) s ≡ none) × (count st ≡ 0)

@@ -1,6 +1,7 @@
 // The store in the model's words: each question of the model about an entry, over slices that are as long as the limits ask.
 ghost use mathlib.Core.Option.{some};
 ghost use mathlib.Core.Path.{_≡_};
+ghost use Prim.Native.Nat.{_<_};
 ghost use lib.ListN.{take, getD};
 ghost use Rattle.layout.specs.Numbers.{extentAt};
 ghost use Rattle.layout.specs.Lent.{_∘_, withWords, withRecords, withHeads, withBytes};
@@ -64,14 +65,15 @@ pub fn child(
 
 // The kind of the entry at the spot: 0 for a directory, 1 for a file, 2 for a link.
 pub fn kind(words: &[u64], records: &[u64], heads: &[u64], spot: Spot) -> u8
-    ensures { λ r. ⌜ OfEntry (onWords words & onRecords records & onHeads heads) spot (λ s p. says (kind? p) s ≡ some (kindFrom r)) ⌝ }
+    ensures { λ r. ⌜ (r < 3) × OfEntry (onWords words & onRecords records & onHeads heads) spot (λ s p. says (kind? p) s ≡ some (kindFrom r)) ⌝ }
 {
     ask_entry::entry_kind(records, in_use(words, heads), spot)
 }
 
 // The metadata of the entry at the spot.
 pub fn stat(words: &[u64], records: &[u64], heads: &[u64], times: &[i64], spot: Spot) -> Stat
-    ensures { λ r. ⌜ OfEntry (onWords words & onRecords records & onHeads heads & onTimes times) spot (λ s p. says (stat? p) s ≡ some (statFrom r)) ⌝ }
+    ensures { λ r. ⌜ (r .kind < 3)
+        × OfEntry (onWords words & onRecords records & onHeads heads & onTimes times) spot (λ s p. says (stat? p) s ≡ some (statFrom r)) ⌝ }
 {
     ask_entry::entry_stat(records, in_use(words, heads), times, spot)
 }

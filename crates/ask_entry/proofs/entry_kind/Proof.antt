@@ -21,11 +21,14 @@ kind-number-requires : tie.Need-kind-number-requires
 kind-number-requires c κs = search needs
 
 returns : tie.Need-returns
-returns c = λ st e f l p a.
-    let g = c .before .before .before .before .before .before .args in
-    let k = c .before .before .slot-of .result in
-    spot-kind st l (g .spot) p a k (slot-by (g .records .now) st (g .spot .at) (c .before .before .before .word-at .result) k e (c .before .before .before .word-at .ensures) (c .before .before .slot-of .ensures))
-    (c .before .word-at2 .result) (c .kind-number .result) (c .before .word-at2 .ensures ∙ ap (λ (us : List ℕ). getD us k 0) (sym f)) (c .kind-number .ensures)
+returns c = (
+  c .kind-number .ensures .0,
+  λ st e f l p a.
+      let g = c .before .before .before .before .before .before .args in
+      let k = c .before .before .slot-of .result in
+      spot-kind st l (g .spot) p a k (slot-by (g .records .now) st (g .spot .at) (c .before .before .before .word-at .result) k e (c .before .before .before .word-at .ensures) (c .before .before .slot-of .ensures))
+      (c .before .word-at2 .result) (c .kind-number .result) (c .before .word-at2 .ensures ∙ ap (λ (us : List ℕ). getD us k 0) (sym f)) (c .kind-number .ensures .1),
+)
 
 pub entry-kind-spec : {M : Type 1} → statement M
 entry-kind-spec =

@@ -18,11 +18,14 @@ slot-stat-requires : tie.Need-slot-stat-requires
 slot-stat-requires c κs = search needs
 
 returns : tie.Need-returns
-returns c = λ st e f h l p a.
-    let g = c .before .before .before .before .before .args in
-    let k = c .before .slot-of .result in
-    spot-stat st l (g .spot) p a k (slot-by (g .records .now) st (g .spot .at) (c .before .before .word-at .result) k e (c .before .before .word-at .ensures) (c .before .slot-of .ensures))
-    (statFrom (c .slot-stat .result)) (c .slot-stat .ensures ∙ (λ j. statAt (lent [] [] (sym f j) (sym h j) [] []) k))
+returns c = (
+  c .slot-stat .ensures .0,
+  λ st e f h l p a.
+      let g = c .before .before .before .before .before .args in
+      let k = c .before .slot-of .result in
+      spot-stat st l (g .spot) p a k (slot-by (g .records .now) st (g .spot .at) (c .before .before .word-at .result) k e (c .before .before .word-at .ensures) (c .before .slot-of .ensures))
+      (statFrom (c .slot-stat .result)) (c .slot-stat .ensures .1 ∙ (λ j. statAt (lent [] [] (sym f j) (sym h j) [] []) k)),
+)
 
 pub entry-stat-spec : {M : Type 1} → statement M
 entry-stat-spec = tie.close (tie.spec word-at-requires slot-of-requires slot-stat-requires returns)

@@ -49,7 +49,7 @@ time-at-requires-4 c κs = search needs
 
 returns : tie.Need-returns
 returns c = let w = c .before .before .before .before .before .before .before .word-at .ensures in
-    let kind = c .before .before .before .before .before .before .kind-number .ensures ∙ ap (λ (h : ℕ). kindBy (kindOf h)) w in
+    let kind = c .before .before .before .before .before .before .kind-number .ensures .1 ∙ ap (λ (h : ℕ). kindBy (kindOf h)) w in
     let size = c .before .before .before .before .before .file-size .ensures ∙ ap (λ (h : ℕ). cond (eqb (kindOf h) 2) (lenOf h) 0) w in
     let mode = c .before .before .before .before .mode-of .ensures ∙ ap modeOf w in
     let time-at : toZ w64 (ofZ w64 (c .before .before .before .time-at .result)) ≡ c .before .before .before .time-at .result = search needs in
@@ -60,7 +60,7 @@ returns c = let w = c .before .before .before .before .before .before .before .w
     let changed = time-at2 ∙ c .before .before .time-at2 .ensures in
     let created = time-at3 ∙ c .before .time-at3 .ensures in
     let modified = time-at4 ∙ c .time-at4 .ensures in
-    λ j. record { kind = kind j; size = size j; meta = record { mode = mode j; accessed = accessed j; changed = changed j; created = created j; modified = modified j } }
+    (c .before .before .before .before .before .before .kind-number .ensures .0, λ j. record { kind = kind j; size = size j; meta = record { mode = mode j; accessed = accessed j; changed = changed j; created = created j; modified = modified j } })
 
 pub slot-stat-spec : {M : Type 1} → statement M
 slot-stat-spec =

@@ -16,10 +16,13 @@ entry-kind-requires : tie.Need-entry-kind-requires
 entry-kind-requires c κs = search needs
 
 returns : tie.Need-returns
-returns c = λ st s h p a.
-    let g = c .before .before .before .before .before .args in
-    let u = (withWords (g .words) ∘ withRecords (g .records) ∘ withHeads (g .heads)) st in
-    sym (told u s h (kind? p)) ∙ c .entry-kind .ensures (trim u) refl (sym (c .before .in-use .ensures)) (h .roomy .lawful) p a
+returns c = (
+  c .entry-kind .ensures .0,
+  λ st s h p a.
+      let g = c .before .before .before .before .before .args in
+      let u = (withWords (g .words) ∘ withRecords (g .records) ∘ withHeads (g .heads)) st in
+      sym (told u s h (kind? p)) ∙ c .entry-kind .ensures .1 (trim u) refl (sym (c .before .in-use .ensures)) (h .roomy .lawful) p a,
+)
 
 pub kind-spec : {M : Type 1} → statement M
 kind-spec = tie.close (tie.spec in-use-requires entry-kind-requires returns)

@@ -16,10 +16,13 @@ entry-stat-requires : tie.Need-entry-stat-requires
 entry-stat-requires c κs = search needs
 
 returns : tie.Need-returns
-returns c = λ st s h p a.
-    let g = c .before .before .before .before .before .args in
-    let u = (withWords (g .words) ∘ withRecords (g .records) ∘ withHeads (g .heads) ∘ withTimes (g .times)) st in
-    sym (told u s h (stat? p)) ∙ c .entry-stat .ensures (trim u) refl (sym (c .before .in-use .ensures)) refl (h .roomy .lawful) p a
+returns c = (
+  c .entry-stat .ensures .0,
+  λ st s h p a.
+      let g = c .before .before .before .before .before .args in
+      let u = (withWords (g .words) ∘ withRecords (g .records) ∘ withHeads (g .heads) ∘ withTimes (g .times)) st in
+      sym (told u s h (stat? p)) ∙ c .entry-stat .ensures .1 (trim u) refl (sym (c .before .in-use .ensures)) refl (h .roomy .lawful) p a,
+)
 
 pub stat-spec : {M : Type 1} → statement M
 stat-spec = tie.close (tie.spec in-use-requires entry-stat-requires returns)

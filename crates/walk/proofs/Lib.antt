@@ -1,0 +1,5 @@
+pub mod Behind
+pub mod Reached
+pub mod Rooted
+pub mod Passing
+pub mod Chains
