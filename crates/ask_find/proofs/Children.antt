@@ -178,7 +178,7 @@ module _ (st : Store) (l : Lawful st) where
               last = m .within;
               offset = m .offset ∙ total-live st l j (m .within);
               deep = i ∙ m .deep ∙ ap (λ (o : Path). suc (length o)) (a .path);
-              room = between (subst (λ (o : Path). parts.Gap (kindAt st) (take j (rowsOf st)) (drop j (rowsOf st)) o x) (a .path) (m .gap));
+              room = between (subst (λ (o : Path). parts.Between (kindAt st) (take j (rowsOf st)) (drop j (rowsOf st)) o x) (a .path) (m .gap));
             },
           )
 

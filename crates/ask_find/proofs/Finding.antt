@@ -13,7 +13,7 @@ use lib.ListN.{length, take, drop, getD, length-append, length-take, List·getD-
 use lib.Seq.{take-length, take-append-seam, getD-append-seam, getD-take}
 use borrow.Author.Tests.{leb-true, leb-false, eqb-true, eqb-false}
 use Rattle.path.specs.Path.{Name}
-use Rattle.model.specs.Tree.{Path, before}
+use Rattle.model.specs.Tree.{Path, precedes}
 use Rattle.model.proofs.Entries.{of-true}
 use Rattle.layout.specs.Rows.{Row, pathBy, pathOf}
 use Rattle.layout.specs.Lawful.{follows, walkOk}
@@ -43,10 +43,10 @@ module _ (q : Path) (x : Name) where
   fits-first = record { within = take-length q; follows = by-follows q true (suc (length q)) x (below refl) }
 
   -- an entry of the directory stands behind one with a lesser name
-  stands : (c y : Name) (e : Bool) → T (before c y) → T (follows (q ++ (c ∷ [])) e (suc (length q)) y)
+  stands : (c y : Name) (e : Bool) → T (precedes c y) → T (follows (q ++ (c ∷ [])) e (suc (length q)) y)
   stands c y e t =
       by-follows (q ++ (c ∷ [])) e (suc (length q)) y
-      (aside (length q) (omega (arith, length-append q (c ∷ []))) (subst (λ (n : Name). T (before n y)) (sym (getD-append-seam q c [] [])) t))
+      (aside (length q) (omega (arith, length-append q (c ∷ []))) (subst (λ (n : Name). T (precedes n y)) (sym (getD-append-seam q c [] [])) t))
 
   module _ (p : Path) (d : Bool) (u : Fits q x p d) where
     long : length q ≤ length p
@@ -57,7 +57,7 @@ module _ (q : Path) (x : Name) where
     child y = ap (λ (o : Path). o ++ (y ∷ [])) (u .within)
 
     -- behind one with a lesser name
-    fits-lesser : (y : Name) (e : Bool) → T (before y x) → Fits q x (pathBy (suc (length q)) p y) e
+    fits-lesser : (y : Name) (e : Bool) → T (precedes y x) → Fits q x (pathBy (suc (length q)) p y) e
     fits-lesser y e t = subst (λ (o : Path). Fits q x o e) (sym (child y)) (record { within = take-append-seam q (y ∷ []); follows = stands y x e t })
 
     -- behind what lies deeper
@@ -77,7 +77,7 @@ module _ (q : Path) (x : Name) where
             let g : getD p j [] ≡ getD (pathOf p r) j [] =
             sym (getD-take (suc (length q)) p j [] (omega (arith, w))) ∙ ap (λ (o : Path). getD o j []) (sym keeps) ∙ getD-take (suc (length q)) (pathOf p r) j [] (omega (arith, w)) in
             let b : j < length (pathOf p r) = omega (arith, w, l, next-length p d (r .name) (r .depth) (follows-by p d (r .depth) (r .name) t)) in
-            subst (λ (m : ℕ). T (follows (pathOf p r) e (suc m) x)) w (by-follows (pathOf p r) e (suc j) x (aside j b (subst (λ (m : Name). T (before m x)) g z)))
+            subst (λ (m : ℕ). T (follows (pathOf p r) e (suc m) x)) w (by-follows (pathOf p r) e (suc j) x (aside j b (subst (λ (m : Name). T (precedes m x)) g z)))
         go k i (below z) = absurd (omega (arith, i, l, short (r .depth) (follows-by p d (r .depth) (r .name) t)))
 
     -- what is not deeper than the directory stands behind the entry
@@ -85,7 +85,7 @@ module _ (q : Path) (x : Name) where
     behind-out y k l (aside j h z) =
         let g : getD p j [] ≡ getD (q ++ (x ∷ [])) j [] =
         sym (getD-take (length q) p j [] (omega (arith, l))) ∙ ap (λ (o : Path). getD o j []) (u .within) ∙ sym (List·getD-append q (x ∷ []) [] j (omega (arith, l))) in
-        by-follows (q ++ (x ∷ [])) false (suc j) y (aside j (omega (arith, l, length-append q (x ∷ []))) (subst (λ (m : Name). T (before m y)) g z))
+        by-follows (q ++ (x ∷ [])) false (suc j) y (aside j (omega (arith, l, length-append q (x ∷ []))) (subst (λ (m : Name). T (precedes m y)) g z))
     behind-out y k l (below z) = absurd (omega (arith, l, long))
 
 -- ---- the scan

@@ -10,12 +10,12 @@ use lib.Dec.{T, eqb}
 use lib.ListN.{length, take, drop, getD, length-append, length-take}
 use lib.Seq.{take-length, getD-take, getD-append-seam}
 use Rattle.path.specs.Path.{Name}
-use Rattle.model.specs.Tree.{Path, before}
+use Rattle.model.specs.Tree.{Path, precedes}
 use Rattle.model.proofs.Sound.Entries.{snoc-equal, snoc-root}
 use Rattle.layout.specs.Rows.{Row}
 use Rattle.layout.specs.Store.{Store, count, rowsOf, kindAt}
 use Rattle.layout.specs.Lawful.{follows, walkOk, Lawful}
-use Rattle.layout.specs.Parts.{pathAfter, dirAfter, Behind, Gap, Deeper, NotDeeper}
+use Rattle.layout.specs.Parts.{pathAfter, dirAfter, Behind, Between, Deeper, NotDeeper}
 use Rattle.layout.proofs.Rising.{Follows, aside, below, by-follows}
 use Rattle.layout.proofs.Edited.Blocked.{at-path, at-length, below-ok, behind-ok}
 use Rattle.layout.proofs.Edited.Removing.{walk-follows, walk-rises, below-keeps}
@@ -36,7 +36,7 @@ behind-of kind n o end dir m (r ∷ b) e k nb w = go (r .depth) nb (walk-rises k
     go : (d : ℕ) → d ≤ m → Follows end dir (r .name) d → T (follows o false d (r .name))
     go d h (aside j y z) =
         let g : getD end j [] ≡ getD o j [] = sym (getD-take m end j [] (omega (arith, h))) ∙ ap (λ (q : Path). getD q j []) k in
-        by-follows o false (suc j) (r .name) (aside j (omega (arith, h, e)) (subst (λ (y : Name). T (before y (r .name))) g z))
+        by-follows o false (suc j) (r .name) (aside j (omega (arith, h, e)) (subst (λ (y : Name). T (precedes y (r .name))) g z))
     go d h (below y) = absurd (omega (arith, h, long))
 
 -- the last name of a path
@@ -114,7 +114,7 @@ module _ (st : Store) (l : Lawful st) (h : ℕ) (a : h < count st) (p : Path) (x
       below-keeps kinds slots (suc d) at (eqb (kinds (row .slot)) 1) (block st h e) dx (below-ok kinds slots up dir row (block st h e) (drop e (rowsOf st)) d (deep .1) dx nb walk)
       ∙ ap (λ (k : ℕ). take k at) (sym at-long) ∙ take-length at
 
-  pub gap-instead : Gap kinds (take h (rowsOf st)) (drop e (rowsOf st)) p x
+  pub gap-instead : Between kinds (take h (rowsOf st)) (drop e (rowsOf st)) p x
   gap-instead =
       record {
         within = ap (λ (k : ℕ). take k up) (sym d-is) ∙ snoc-equal (take d up) p (row .name) x at-is;

@@ -20,7 +20,7 @@ use Rattle.layout.specs.Store.{Store, count, live, rowsOf, kindAt, nodeAt, stat
 use Rattle.layout.specs.Lawful.{follows, walkOk, rowsOk, Lawful}
 use Rattle.layout.specs.Alike.{HasSlot}
 use Rattle.layout.proofs.Named.{nameSum, name-offset}
-use Rattle.layout.specs.Parts.{pathAfter, dirAfter, Behind, Gap}
+use Rattle.layout.specs.Parts.{pathAfter, dirAfter, Behind, Between}
 use Rattle.layout.proofs.Edited.Parted.{after-both, dir-both}
 use Rattle.layout.proofs.Edited.Gaps.{gap-none}
 use Rattle.ask_find.specs.declared.Place.{Place}
@@ -45,7 +45,7 @@ pub record MissingGap (st : Store) (i : ℕ) (x : Name) (j o : ℕ) : Type 0 whe
   pub within : j ≤ count st
   pub offset : o ≡ nameTotal (take j (live st))
   pub deep : depthOf (getD (st .records) i 0) + 1 ≡ suc (length (pathAt st i))
-  pub gap : Gap (kindAt st) (take j (rowsOf st)) (drop j (rowsOf st)) (pathAt st i) x
+  pub gap : Between (kindAt st) (take j (rowsOf st)) (drop j (rowsOf st)) (pathAt st i) x
   pub missing : look (state st .tree) (pathAt st i ++ (x ∷ [])) ≡ none
 
 -- the directory at record i, and what `find_child` is asked
@@ -95,7 +95,7 @@ module _ (st : Store) (l : Lawful st) (i : ℕ) (h : i < count st) (d : kindAt s
         node = subst (λ (u : Path). look (state st .tree) u ≡ some (nodeAt st (slotAt st j))) p (path-look st l j g);
       }
 
-  gap-at : (j b : ℕ) → MissingAt (kindAt st) q x q true behind (suc i) o j b → Gap (kindAt st) (take j (rowsOf st)) (drop j (rowsOf st)) q x
+  gap-at : (j b : ℕ) → MissingAt (kindAt st) q x q true behind (suc i) o j b → Between (kindAt st) (take j (rowsOf st)) (drop j (rowsOf st)) q x
   gap-at j b m =
       let a = take (m .index) behind in
       let t : take j (rowsOf st) ≡ take (suc i) (rowsOf st) ++ a = ap (λ (k : ℕ). take k (rowsOf st)) (m .at) ∙ take-add (suc i) (m .index) (rowsOf st) in
@@ -108,7 +108,7 @@ module _ (st : Store) (l : Lawful st) (i : ℕ) (h : i < count st) (d : kindAt s
         behind = subst (Behind (q ++ (x ∷ []))) (drop-drop (m .index) (suc i) (rowsOf st) ∙ ap (λ (k : ℕ). drop k (rowsOf st)) (sym (m .at))) (m .behind);
       }
 
-  none-at : (j : ℕ) → i < j → j ≤ count st → Gap (kindAt st) (take j (rowsOf st)) (drop j (rowsOf st)) q x → look (state st .tree) (q ++ (x ∷ [])) ≡ none
+  none-at : (j : ℕ) → i < j → j ≤ count st → Between (kindAt st) (take j (rowsOf st)) (drop j (rowsOf st)) q x → look (state st .tree) (q ++ (x ∷ [])) ≡ none
   none-at j a b g =
       let n = length (st .heads) in
       ap (λ (rs : List Row). look (treeFrom (nodeAt st) [] rs) (q ++ (x ∷ []))) (sym (take-append-drop j (rowsOf st)))

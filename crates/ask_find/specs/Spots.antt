@@ -64,8 +64,8 @@ blockEnd st i = i + 1 + span (depthOf (getD (st .records) i 0)) (drop (i + 1) (l
 
 -- the entry x of the directory p may stand before record k, or in the place of record h with all below it
 pub data Room (st : Store) (h : ℕ) (p : Path) (x : Name) (k : ℕ) : Type 0 where
-  between : parts.Gap (kindAt st) (take k (rowsOf st)) (drop k (rowsOf st)) p x → Room st h p x k
-  instead : h < count st → k ≡ h → pathAt st h ≡ p ++ (x ∷ []) → parts.Gap (kindAt st) (take h (rowsOf st)) (drop (blockEnd st h) (rowsOf st)) p x → Room st h p x k
+  between : parts.Between (kindAt st) (take k (rowsOf st)) (drop k (rowsOf st)) p x → Room st h p x k
+  instead : h < count st → k ≡ h → pathAt st h ≡ p ++ (x ∷ []) → parts.Between (kindAt st) (take h (rowsOf st)) (drop (blockEnd st h) (rowsOf st)) p x → Room st h p x k
 
 -- the gap is a place for the entry x of the directory p
 pub record Vacant (st : Store) (h : ℕ) (p : Path) (x : Name) (g : Gap) : Type 0 where

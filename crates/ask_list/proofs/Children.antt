@@ -12,7 +12,7 @@ use lib.ListN.{length, take, drop, getD, length-take, length-drop, take-append-d
 use lib.Seq.{take-take, take-length, getD-take}
 use borrow.Author.Tests.{leb-true, leb-false, eqb-true, eqb-false}
 use Rattle.path.specs.Path.{Name}
-use Rattle.model.specs.Tree.{Path, Node, Entries, keepIf, before, behind, ifBehind, under}
+use Rattle.model.specs.Tree.{Path, Node, Entries, keepIf, precedes, behind, ifBehind, under}
 use Rattle.model.specs.Prog.{World, Stat, statOf, child, children}
 use Rattle.model.proofs.Entries.{behind-self}
 use Rattle.layout.specs.Rows.{Row, pathBy, pathOf, treeFrom}
@@ -64,7 +64,7 @@ beyond-here : (q p : Path) (d : Bool) (x : Name) (k : ℕ) → take (length q) p
 beyond-here q p d x k h l (aside j a t) =
     let e : take j q ≡ take j p = ap (take j) (sym h) ∙ take-take j (length q) p (omega (arith, l)) in
     let g : getD p j [] ≡ getD q j [] = sym (getD-take (length q) p j [] (omega (arith, l))) ∙ ap (λ (o : Path). getD o j []) h in
-    subst (λ (o : Path). Beyond q (o ++ (x ∷ []))) e (beyond-aside j q x (omega (arith, l)) (subst (λ (y : Name). T (before y x)) g t))
+    subst (λ (o : Path). Beyond q (o ++ (x ∷ []))) e (beyond-aside j q x (omega (arith, l)) (subst (λ (y : Name). T (precedes y x)) g t))
 beyond-here q p d x k h l (below e) = absurd (omega (arith, l, sym (length-take (length q) p) ∙ ap length h))
 
 module _ (kind : ℕ → ℕ) (n : ℕ) (f : ℕ → Node) where

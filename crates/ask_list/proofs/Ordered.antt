@@ -11,7 +11,7 @@ use lib.ListN.{length, getD}
 use lib.Seq.{getD-take}
 use borrow.Author.Tests.{leb-false, eqb-true, eqb-false}
 use Rattle.path.specs.Path.{Name}
-use Rattle.model.specs.Tree.{Path, Node, keepIf, before, insertBy, insert, inOrder}
+use Rattle.model.specs.Tree.{Path, Node, keepIf, precedes, insertBy, insert, inOrder}
 use Rattle.model.specs.Prog.{World, Stat, statOf, child}
 use Rattle.model.proofs.Entries.{is-true}
 use Rattle.layout.specs.Rows.{Row, pathBy, pathOf}
@@ -27,13 +27,13 @@ use Rattle.ask_list.specs.Listed.{entriesIn, shown}
 -- each name is before the next, from x on
 abbrev Chain : Name → List (Name × Stat) → Type 0
 Chain x [] = Unit {0}
-Chain x (e ∷ l) = T (before x (e .0)) × Chain (e .0) l
+Chain x (e ∷ l) = T (precedes x (e .0)) × Chain (e .0) l
 
-chain-lower : (x y : Name) (l : List (Name × Stat)) → T (before x y) → Chain y l → Chain x l
+chain-lower : (x y : Name) (l : List (Name × Stat)) → T (precedes x y) → Chain y l → Chain x l
 chain-lower x y [] t c = tt
 chain-lower x y (e ∷ l) t c = (before-both x y (e .0) t (c .0), c .1)
 
-chain-child : (x y : Name) (o : Option Stat) (l : List (Name × Stat)) → T (before x y) → Chain y l → Chain x (child (y ∷ []) o l)
+chain-child : (x y : Name) (o : Option Stat) (l : List (Name × Stat)) → T (precedes x y) → Chain y l → Chain x (child (y ∷ []) o l)
 chain-child x y none l t c = chain-lower x y l t c
 chain-child x y (some s) l t c = (t, c)
 
@@ -41,7 +41,7 @@ chain-child x y (some s) l t c = (t, c)
 place-first : (e : Name × Stat) (l : List (Name × Stat)) → Chain (e .0) l → insert e l ≡ e ∷ l
 unfolding insert
 place-first e [] c = refl
-place-first e (f ∷ l) c = ap (λ (b : Bool). insertBy b e f l (insert e l)) (is-true (before (e .0) (f .0)) (c .0))
+place-first e (f ∷ l) c = ap (λ (b : Bool). insertBy b e f l (insert e l)) (is-true (precedes (e .0) (f .0)) (c .0))
 
 chain-order : (x : Name) (l : List (Name × Stat)) → Chain x l → inOrder l ≡ l
 unfolding inOrder
@@ -57,8 +57,8 @@ child-order x (some s) l c = ap (insert (x, s)) (chain-order x l c) ∙ place-fi
 
 -- the name behind so many of a path
 -- a greater name than the one at its place
-greater : (p : Path) (d : Bool) (x : Name) (m k : ℕ) → k ≡ suc m → m < length p → Follows p d x k → T (before (getD p m []) x)
-greater p d x m k e h (aside j a t) = let g : j ≡ m = omega (arith, e) in subst (λ (i : ℕ). T (before (getD p i []) x)) g t
+greater : (p : Path) (d : Bool) (x : Name) (m k : ℕ) → k ≡ suc m → m < length p → Follows p d x k → T (precedes (getD p m []) x)
+greater p d x m k e h (aside j a t) = let g : j ≡ m = omega (arith, e) in subst (λ (i : ℕ). T (precedes (getD p i []) x)) g t
 greater p d x m k e h (below b) = absurd (omega (arith, e, h))
 
 pub low : (p : Path) (d : Bool) (x : Name) (k : ℕ) → Follows p d x k → k ≤ suc (length p)

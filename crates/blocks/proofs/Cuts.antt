@@ -7,7 +7,7 @@ use native.Mathlib.Nat.{zero-add}
 use native.Mathlib.Omega.{arith}
 use lib.ListN.{length, take, drop, length-append, take-append-drop}
 use lib.Seq.{paste, take-nil, take-at, drop-at, take-append-le, drop-append-le, take-take, take-add, take-length, drop-drop}
-use Rattle.blocks.specs.Gap.{moved}
+use Rattle.blocks.specs.Moved.{moved}
 
 module _ {A : Type 0} where
   -- a list up to a, then on to m

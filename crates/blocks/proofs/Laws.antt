@@ -7,7 +7,7 @@ use native.Mathlib.Numerals.{sub-one}
 use native.Mathlib.Omega.{arith}
 use lib.ListN.{length, take, drop, getD, set, length-drop, List·getD-append, take-append-drop}
 use lib.Seq.{paste, paste-zero, paste-suc, length-paste-head, length-take-le, set-append-left, take-suc-set, append-snoc, drop-cons, getD-drop, getD-take, getD-append-add, take-set-lt, take-add}
-use Rattle.blocks.specs.Gap.{moved}
+use Rattle.blocks.specs.Moved.{moved}
 
 pub moved-none : (s : List ℕ) (f t : ℕ) → s ≡ moved s f t 0
 unfolding moved

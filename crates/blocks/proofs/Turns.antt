@@ -6,7 +6,7 @@ use Prim.Native.Nat.{ℕ, _+_, _-_, _≤_, _<_}
 use native.Mathlib.Omega.{arith}
 use lib.ListN.{length, take, drop, getD, set, length-append, length-drop, take-append-drop}
 use lib.Seq.{paste, length-take-le, take-at, drop-at, take-append-le, drop-append-le, take-length, length-slice, getD-append-seam, set-append-seam}
-use Rattle.blocks.specs.Gap.{moved}
+use Rattle.blocks.specs.Moved.{moved}
 use Rattle.blocks.proofs.Cuts.{quarter, down, up, over, part-is}
 use Rattle.blocks.specs.Turn.{turned}
 

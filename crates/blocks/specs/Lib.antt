@@ -1,2 +1,2 @@
-pub mod Gap
+pub mod Moved
 pub mod Turn

@@ -3,7 +3,7 @@ ghost use mathlib.Core.Path.{_≡_};
 ghost use Prim.Native.Nat.{_+_, _-_, _≤_};
 ghost use lib.ListN.{length};
 ghost use lib.Seq.{paste};
-ghost use Rattle.blocks.specs.Gap.{moved};
+ghost use Rattle.blocks.specs.Moved.{moved};
 ghost use Rattle.blocks.specs.Turn.{turned};
 
 // Moves s[at..used] up by n. (A move by 0 would make the compiler's vectorised loop fall back to single bytes.)

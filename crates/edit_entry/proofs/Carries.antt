@@ -23,7 +23,7 @@ use Rattle.layout.specs.Alike.{Spells}
 use Rattle.layout.proofs.Roots.{all-slots}
 use Rattle.layout.proofs.Tables.{file-found, file-there}
 use Rattle.layout.proofs.Walks.{SlotsIn}
-use Rattle.layout.specs.Parts.{pathAfter, Gap, Deeper, NotDeeper}
+use Rattle.layout.specs.Parts.{pathAfter, Between, Deeper, NotDeeper}
 use Rattle.layout.proofs.Edited.Carrying.{rows-carried, uses-carried, look-carried}
 use Rattle.layout.proofs.Edited.Numbers.{held-kept, opens-kept}
 use Rattle.layout.proofs.Edited.Parted.{rows-slots, tree-slots}
@@ -33,7 +33,7 @@ use Rattle.edit_entry.specs.Carriage.{Carried}
 use Rattle.edit_entry.proofs.Adding.{node-same, slot-same}
 
 module _ (st st′ : Store) (root : Row) (a : List Row) (row : Row) (x b a₂ b₂ : List Row) (q : Path) (y : Name) (l : Lawful st)
-    (g : Carried st st′ root a row x b a₂ b₂ q y) (dx : Deeper (row .depth) x) (nb : NotDeeper (row .depth) b) (p : Gap (kindAt st) a₂ b₂ q y)
+    (g : Carried st st′ root a row x b a₂ b₂ q y) (dx : Deeper (row .depth) x) (nb : NotDeeper (row .depth) b) (p : Between (kindAt st) a₂ b₂ q y)
     (m : T (nameOk y)) (z : a₂ ≡ [] → ⊥) where
   abbrev n : ℕ
   n = length (st .heads)

@@ -24,7 +24,7 @@ use Rattle.layout.specs.Lawful.{follows, walkOk, rowsOk}
 use Rattle.layout.proofs.Rising.{Follows, aside, below, follows-by, by-follows}
 use Rattle.layout.proofs.Roots.{root-of}
 use Rattle.layout.proofs.Walks.{rest-ok}
-use Rattle.layout.specs.Parts.{pathAfter, dirAfter, Behind, Gap, Deeper, NotDeeper}
+use Rattle.layout.specs.Parts.{pathAfter, dirAfter, Behind, Between, Deeper, NotDeeper}
 use Rattle.layout.proofs.Edited.Blocked.{at-path, behind-start, behind-stand}
 use Rattle.layout.proofs.Edited.Inserting.{new-length, new-path, rows-new}
 use Rattle.layout.proofs.Edited.Parted.{walk-both, walk-second, after-both, SameStart, MayStand}
@@ -39,7 +39,7 @@ pub record Besides (kind : ℕ → ℕ) (root : Row) (a b : List Row) (i e p : �
   pub b₂ : List Row
   pub place : Beside root a b i e p a₂ b₂
   pub notFirst : a₂ ≡ [] → ⊥
-  pub gap : Gap kind a₂ b₂ q y
+  pub gap : Between kind a₂ b₂ q y
 
 -- ---- what follows a path
 
@@ -125,7 +125,7 @@ module _ (kind : ℕ → ℕ) (n k : ℕ) (low : k < n) (q : Path) (y : Name) (o
   abbrev path : Path
   path = q ++ (y ∷ [])
 
-  module _ (a b : List Row) (z : a ≡ [] → ⊥) (t : T (rowsOk kind n (a ++ b))) (g : Gap kind a b q y) where
+  module _ (a b : List Row) (z : a ≡ [] → ⊥) (t : T (rowsOk kind n (a ++ b))) (g : Between kind a b q y) where
     -- the rows with the new entry
     rows-with : T (rowsOk kind n (a ++ (new ∷ b)))
     rows-with = rows-new kind a b q y g n k z low ok t
@@ -165,7 +165,7 @@ module _ (kind : ℕ → ℕ) (n k : ℕ) (low : k < n) (q : Path) (y : Name) (o
     front-rows c d e =
         subst (λ (l : List Row). T (rowsOk kind n l)) (append-assoc c d (row ∷ (x ++ b))) (subst (λ (l : List Row). T (rowsOk kind n (l ++ (row ∷ (x ++ b))))) e t)
 
-    front-behind : (c : List Row) → first ≡ c ++ [] → (c ≡ [] → ⊥) → Gap kind c (row ∷ (x ++ b)) q y → Behind path b
+    front-behind : (c : List Row) → first ≡ c ++ [] → (c ≡ [] → ⊥) → Between kind c (row ∷ (x ++ b)) q y → Behind path b
     front-behind c e z g =
         let d = eqb (kind k) 1 in
         let j = one-deep path false (row .depth) (row .name) (g .behind) in
@@ -173,12 +173,12 @@ module _ (kind : ℕ → ℕ) (n k : ℕ) (low : k < n) (q : Path) (y : Name) (o
         (behind-stand kind n path d row x b (j .0) (j .1) (subst (λ (m : ℕ). Deeper m x) (j .1) dx) (subst (λ (m : ℕ). NotDeeper m b) (j .1) nb)
         (walk-next c (row ∷ (x ++ b)) z (front-rows c [] e) g))
 
-    front-gap : (c d : List Row) → first ≡ c ++ d → (c ≡ [] → ⊥) → Gap kind c (d ++ (row ∷ (x ++ b))) q y → Gap kind c (d ++ b) q y
+    front-gap : (c d : List Row) → first ≡ c ++ d → (c ≡ [] → ⊥) → Between kind c (d ++ (row ∷ (x ++ b))) q y → Between kind c (d ++ b) q y
     front-gap c [] e z g = record { within = g .within; follows = g .follows; behind = front-behind c e z g }
     front-gap c (r ∷ d) e z g = record { within = g .within; follows = g .follows; behind = g .behind }
 
     -- behind it
-    module _ (c d : List Row) (e : b ≡ c ++ d) (h : c ≡ [] → length q < row .depth) (g : Gap kind (first ++ (row ∷ (x ++ c))) d q y) where
+    module _ (c d : List Row) (e : b ≡ c ++ d) (h : c ≡ [] → length q < row .depth) (g : Between kind (first ++ (row ∷ (x ++ c))) d q y) where
       joined : (w : List Row) → (first ++ (row ∷ (x ++ c))) ++ w ≡ first ++ (row ∷ (x ++ (c ++ w)))
       joined w = append-assoc first (row ∷ (x ++ c)) w ∙ ap (λ (l : List Row). first ++ (row ∷ l)) (append-assoc x c w)
 
@@ -219,7 +219,7 @@ module _ (kind : ℕ → ℕ) (n k : ℕ) (low : k < n) (q : Path) (y : Name) (o
           ∙ ap (λ (p : Path). pathOf p new) (sym (after-parts [] first row x c))
           ∙ new-path kind (first ++ (row ∷ (x ++ c))) d q y g k)
 
-      back-gap : Gap kind (first ++ c) d q y
+      back-gap : Between kind (first ++ c) d q y
       back-gap =
           record {
             within = back-within;
@@ -252,7 +252,7 @@ module _ (kind : ℕ → ℕ) (n k : ℕ) (low : k < n) (q : Path) (y : Name) (o
         ∙ take-length entry
 
     module _ (i e p : ℕ) (from : i ≡ suc (length a)) (to : e ≡ suc (i + length x)) (start : 0 < p) (last : p ≤ length whole)
-        (g : Gap kind (take p whole) (drop p whole) q y) (out : i < p → p ≤ e → behind entry q ≡ none) where
+        (g : Between kind (take p whole) (drop p whole) q y) (out : i < p → p ≤ e → behind entry q ≡ none) where
       take-inside : (m : ℕ) → p ≡ length first + suc m → m ≤ length x → take p whole ≡ first ++ (row ∷ take m x)
       take-inside m f l =
           ap (λ (j : ℕ). take j whole) f ∙ take-append-add first (row ∷ (x ++ b)) (suc m) ∙ ap (λ (r : List Row). first ++ (row ∷ r)) (take-append-le m x b l)
@@ -282,7 +282,7 @@ module _ (kind : ℕ → ℕ) (n k : ℕ) (low : k < n) (q : Path) (y : Name) (o
           let z : c ≡ [] → ⊥ = λ w. omega (arith, ap length w, o) in
           let u = take-append-le p first (row ∷ (x ++ b)) (omega (arith, from)) in
           let v = drop-append-le p first (row ∷ (x ++ b)) (omega (arith, from)) in
-          record { a₂ = c; b₂ = d ++ b; place = front c d f o refl refl; notFirst = z; gap = front-gap c d f z (subst (λ (r : List Row). Gap kind r (d ++ (row ∷ (x ++ b))) q y) u (subst (λ (r : List Row). Gap kind (take p whole) r q y) v g)) }
+          record { a₂ = c; b₂ = d ++ b; place = front c d f o refl refl; notFirst = z; gap = front-gap c d f z (subst (λ (r : List Row). Between kind r (d ++ (row ∷ (x ++ b))) q y) u (subst (λ (r : List Row). Between kind (take p whole) r q y) v g)) }
 
       in-back : e ≤ p → Besides kind root a b i e p q y
       in-back l =
@@ -295,7 +295,7 @@ module _ (kind : ℕ → ℕ) (n k : ℕ) (low : k < n) (q : Path) (y : Name) (o
           let u : take p whole ≡ first ++ (row ∷ (x ++ c)) = ap (λ (j : ℕ). take j whole) f ∙ take-append-add first (row ∷ (x ++ b)) (suc (length x + m)) ∙ ap (λ (r : List Row). first ++ (row ∷ r)) (take-append-add x b m) in
           let v : drop p whole ≡ d = ap (λ (j : ℕ). drop j whole) f ∙ drop-append-add first (row ∷ (x ++ b)) (suc (length x + m)) ∙ drop-append-add x b m in
           let h : c ≡ [] → length q < row .depth = λ w. shallow (omega (arith, to)) (omega (arith, ap length w, o)) in
-          record { a₂ = first ++ c; b₂ = d; place = back c d (sym (take-append-drop m b)) (omega (arith, o)) refl refl; notFirst = some-first (a ++ c); gap = back-gap c d (sym (take-append-drop m b)) h (subst (λ (r : List Row). Gap kind r d q y) u (subst (λ (r : List Row). Gap kind (take p whole) r q y) v g)) }
+          record { a₂ = first ++ c; b₂ = d; place = back c d (sym (take-append-drop m b)) (omega (arith, o)) refl refl; notFirst = some-first (a ++ c); gap = back-gap c d (sym (take-append-drop m b)) h (subst (λ (r : List Row). Between kind r d q y) u (subst (λ (r : List Row). Between kind (take p whole) r q y) v g)) }
 
       -- no gap is inside
       not-inside : i < p → p < e → ⊥

@@ -14,14 +14,14 @@ use Rattle.model.specs.Rules.{nameOk}
 use Rattle.layout.specs.Rows.{Row, treeFrom}
 use Rattle.layout.specs.Store.{Store, kindAt}
 use Rattle.layout.specs.Lawful.{follows, rowsOk, walkOk, Lawful}
-use Rattle.layout.specs.Parts.{pathAfter, Gap}
+use Rattle.layout.specs.Parts.{pathAfter, Between}
 use Rattle.layout.proofs.Edited.Inserting.{tree-new, rows-new}
 use Rattle.edit_entry.specs.Growth.{newRow, rootRow, Grown}
 use Rattle.edit_entry.proofs.Growing.{rows-still, dir-still}
 
 module _ (st st′ : Store) (a b : List Row) (q : Path) (x : Name) (s h : ℕ) (c : Bytes) (t : Time) (l : Lawful st) (g : Grown st st′ a b (newRow q x s) h c t)
-    (p : Gap (kindAt st) a b q x) where
-  new-gap : Gap (kindAt st′) a b q x
+    (p : Between (kindAt st) a b q x) where
+  new-gap : Between (kindAt st′) a b q x
   new-gap =
       record {
         within = p .within;

@@ -16,7 +16,7 @@ use Rattle.layout.specs.Slots.{total}
 use Rattle.layout.specs.Store.{Store, most, room, count, live, rowsOf, kindAt, state}
 use Rattle.model.specs.Calls.States.{edited}
 use Rattle.layout.specs.Alike.{Spells}
-use Rattle.layout.specs.Parts.{Gap}
+use Rattle.layout.specs.Parts.{Between}
 use Rattle.slots.specs.Free.{HasFree}
 use Rattle.edit_entry.specs.Growth.{newRow, newMeta}
 
@@ -26,7 +26,7 @@ pub record Vacancy (st : Store) (k depth : ℕ) (q : Path) (x : Name) : Type 0 w
   pub last : k ≤ count st
   pub deep : depth ≡ suc (length q)
   pub name : T (nameOk x)
-  pub gap : Gap (kindAt st) (take k (rowsOf st)) (drop k (rowsOf st)) q x
+  pub gap : Between (kindAt st) (take k (rowsOf st)) (drop k (rowsOf st)) q x
   pub missing : look (state st .tree) (q ++ (x ∷ [])) ≡ none
 
 -- what an entry of that kind may hold: a directory nothing, a file any bytes, a link a target

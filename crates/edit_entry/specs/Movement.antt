@@ -14,7 +14,7 @@ use Rattle.layout.specs.Slots.{total}
 use Rattle.layout.specs.Store.{Store, room, live, rowsOf, kindAt, state}
 use Rattle.model.specs.Calls.States.{moved}
 use Rattle.layout.specs.Alike.{Spells}
-use Rattle.layout.specs.Parts.{pathAfter, Gap, Deeper, NotDeeper}
+use Rattle.layout.specs.Parts.{pathAfter, Between, Deeper, NotDeeper}
 
 -- the place before record p, in front of the records from i to e that move, or behind them
 pub data Beside (root : Row) (a b : List Row) (i e p : ℕ) (a₂ b₂ : List Row) : Type 0 where
@@ -39,7 +39,7 @@ pub record Movable (st : Store) (i e p depth : ℕ) (y : Name) : Type 0 where
   pub place : Beside root a b i e p a₂ b₂
   pub notFirst : a₂ ≡ [] → ⊥
   pub deep : depth ≡ suc (length q)
-  pub gap : Gap (kindAt st) a₂ b₂ q y
+  pub gap : Between (kindAt st) a₂ b₂ q y
   pub name : T (nameOk y)
   pub fits : nameTotal (live st) + length y + total (st .heads) ≤ room st + length (row .name)
   -- nothing stands at the new path or below it once the entry is out

@@ -13,7 +13,7 @@ use borrow.Author.Tests.{lt-ltb, le-ltb, eq-eqb, ne-eqb, ltb-true, eqb-true, eqb
 use Rattle.text.specs.Utf8.{Bytes}
 use Rattle.path.specs.Path.{Name, vanishes, isUp}
 use Rattle.path.specs.Backward.{kindBy, kindOf}
-use Rattle.model.specs.Tree.{Path, before}
+use Rattle.model.specs.Tree.{Path, precedes}
 use Rattle.model.specs.Prog.{isNil}
 use Rattle.layout.specs.Fields.{depthOf, nlenOf, slotOf}
 use Rattle.layout.specs.Rows.{Row, rows, nameTotal, pathBy, pathOf}
@@ -81,7 +81,7 @@ module _ (bs : Bytes) (last : List ℕ) (d : ℕ) (l : d ≤ length last) where
     follows-root dep e = rw e
 
     pub follows-beside : (dep : ℕ) (a e : ℕ) → (dep ≡ 0 → ⊥) → dep - 1 < d → a ≡ getD last (dep - 1) 0 / 256 → e ≡ a + getD last (dep - 1) 0 % 256
-        → before (take (e - a) (drop a bs)) x ≡ follows (spell bs (take d last)) dir dep x
+        → precedes (take (e - a) (drop a bs)) x ≡ follows (spell bs (take d last)) dir dep x
     follows-beside zero a e z h p q = absurd (z refl)
     follows-beside (suc k) a e z h p q =
         let y : suc k - 1 ≡ k = omega arith in
@@ -90,11 +90,11 @@ module _ (bs : Bytes) (last : List ℕ) (d : ℕ) (l : d ≤ length last) where
         let s : take (e - a) (drop a bs) ≡ nameAt bs v = ap (λ (i : ℕ). take i (drop a bs)) n ∙ ap (λ (i : ℕ). take (v % 256) (drop i bs)) p in
         let u : nameAt bs v ≡ getD (spell bs (take d last)) k [] = ap (λ (i : ℕ). nameAt bs (getD last i 0)) y ∙ sym (path-at k (omega arith)) in
         let t : ltb k (length (spell bs (take d last))) ≡ true = lt-ltb k (length (spell bs (take d last))) (omega (arith, path-length)) in
-        ap (λ (m : Name). before m x) (s ∙ u)
-        ∙ ap (λ (b : Bool). cond b (before (getD (spell bs (take d last)) k []) x) (eqb k (length (spell bs (take d last))) && dir)) (sym t)
+        ap (λ (m : Name). precedes m x) (s ∙ u)
+        ∙ ap (λ (b : Bool). cond b (precedes (getD (spell bs (take d last)) k []) x) (eqb k (length (spell bs (take d last))) && dir)) (sym t)
 
     deeper : (k : ℕ) → d ≤ k → follows (spell bs (take d last)) dir (suc k) x ≡ eqb k (length (spell bs (take d last))) && dir
-    deeper k h = ap (λ (b : Bool). cond b (before (getD (spell bs (take d last)) k []) x) (eqb k (length (spell bs (take d last))) && dir))
+    deeper k h = ap (λ (b : Bool). cond b (precedes (getD (spell bs (take d last)) k []) x) (eqb k (length (spell bs (take d last))) && dir))
         (le-ltb k (length (spell bs (take d last))) (omega (arith, path-length)))
 
     pub follows-deep : (dep : ℕ) → (dep ≡ 0 → ⊥) → d ≤ dep - 1 → (dep - 1 ≡ d → ⊥) → false ≡ follows (spell bs (take d last)) dir dep x
@@ -147,7 +147,7 @@ module _ (n : ℕ) (p : Path) (d : Bool) (r : Row) where
     pub fits-depth : (1 ≤ r .depth) × (r .depth ≤ length p + 1)
     fits-depth = go (r .depth) (and-true-right (formOk (r .name)) (follows p d (r .depth) (r .name)) (and-true-right (ltb (r .slot) n) (formOk (r .name) && follows p d (r .depth) (r .name)) e))
       where
-        deep : (k : ℕ) (t : Bool) → ltb k (length p) ≡ t → cond t (before (getD p k []) (r .name)) (eqb k (length p) && d) ≡ true → k ≤ length p
+        deep : (k : ℕ) (t : Bool) → ltb k (length p) ≡ t → cond t (precedes (getD p k []) (r .name)) (eqb k (length p) && d) ≡ true → k ≤ length p
         deep k true q f = omega (arith, ltb-true k (length p) q)
         deep k false q f = omega (arith, eqb-true k (length p) (and-true-left (eqb k (length p)) d f))
 

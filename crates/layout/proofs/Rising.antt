@@ -14,7 +14,7 @@ use borrow.Author.Tests.{lt-ltb, le-ltb, eq-eqb, ltb-true}
 use Rattle.text.specs.Utf8.{Bytes}
 use Rattle.path.specs.Path.{Name}
 use Rattle.path.proofs.Laws.{and-left, and-right}
-use Rattle.model.specs.Tree.{Path, before}
+use Rattle.model.specs.Tree.{Path, precedes}
 use Rattle.model.proofs.Entries.{is-true, of-true}
 use Rattle.model.proofs.Ordering.{not-itself, joins}
 use Rattle.layout.specs.Rows.{pathBy}
@@ -22,11 +22,11 @@ use Rattle.layout.specs.Lawful.{follows}
 
 -- ---- names
 
-pub before-self : (x : Bytes) → T (before x x) → ⊥
+pub before-self : (x : Bytes) → T (precedes x x) → ⊥
 before-self x t = subst T (not-itself x) t
 
-pub before-both : (x y z : Bytes) → T (before x y) → T (before y z) → T (before x z)
-before-both x y z t u = of-true (joins x y z (is-true (before x y) t) (is-true (before y z) u))
+pub before-both : (x y z : Bytes) → T (precedes x y) → T (precedes y z) → T (precedes x z)
+before-both x y z t u = of-true (joins x y z (is-true (precedes x y) t) (is-true (precedes y z) u))
 
 -- ---- paths
 
@@ -35,7 +35,7 @@ abbrev pub Rises : Path → Path → Type 0
 Rises [] [] = ⊥
 Rises [] (y ∷ q) = Unit {0}
 Rises (x ∷ p) [] = ⊥
-Rises (x ∷ p) (y ∷ q) = T (before x y) ⊎ ((x ≡ y) × Rises p q)
+Rises (x ∷ p) (y ∷ q) = T (precedes x y) ⊎ ((x ≡ y) × Rises p q)
 
 pub rise-self : (p : Path) → Rises p p → ⊥
 rise-self [] h = h
@@ -52,14 +52,14 @@ rise-both [] (y ∷ q) (z ∷ r) h k = tt
 rise-both (x ∷ p) [] r h k = absurd h
 rise-both (x ∷ p) (y ∷ q) [] h k = k
 rise-both (x ∷ p) (y ∷ q) (z ∷ r) (inl t) (inl u) = inl (before-both x y z t u)
-rise-both (x ∷ p) (y ∷ q) (z ∷ r) (inl t) (inr e) = inl (subst (λ (n : Name). T (before x n)) (e .0) t)
-rise-both (x ∷ p) (y ∷ q) (z ∷ r) (inr e) (inl u) = inl (subst (λ (n : Name). T (before n z)) (sym (e .0)) u)
+rise-both (x ∷ p) (y ∷ q) (z ∷ r) (inl t) (inr e) = inl (subst (λ (n : Name). T (precedes x n)) (e .0) t)
+rise-both (x ∷ p) (y ∷ q) (z ∷ r) (inr e) (inl u) = inl (subst (λ (n : Name). T (precedes n z)) (sym (e .0)) u)
 rise-both (x ∷ p) (y ∷ q) (z ∷ r) (inr e) (inr f) = inr (e .0 ∙ f .0, rise-both p q r (e .1) (f .1))
 
 -- ---- the next entry of a walk
 
 -- behind another in its directory
-pub rise-aside : (k : ℕ) (p : Path) (x : Name) → k < length p → T (before (getD p k []) x) → Rises p (take k p ++ (x ∷ []))
+pub rise-aside : (k : ℕ) (p : Path) (x : Name) → k < length p → T (precedes (getD p k []) x) → Rises p (take k p ++ (x ∷ []))
 rise-aside k [] x h t = absurd (omega arith)
 rise-aside zero (y ∷ p) x h t = inl t
 rise-aside (suc k) (y ∷ p) x h t = inr (refl, rise-aside k p x (omega arith) t)
@@ -71,14 +71,14 @@ rise-under (y ∷ p) x = inr (refl, rise-under p x)
 
 -- where the entry stands: aside one of the names before it, or below all of them
 pub data Follows (p : Path) (d : Bool) (x : Name) : ℕ → Type 0 where
-  aside : (k : ℕ) → k < length p → T (before (getD p k []) x) → Follows p d x (suc k)
+  aside : (k : ℕ) → k < length p → T (precedes (getD p k []) x) → Follows p d x (suc k)
   below : d ≡ true → Follows p d x (suc (length p))
 
 pub follows-by : (p : Path) (d : Bool) (k : ℕ) (x : Name) → T (follows p d k x) → Follows p d x k
 follows-by p d zero x t = absurd t
 follows-by p d (suc k) x t = go (ltb k (length p)) refl t
   where
-    go : (b : Bool) → ltb k (length p) ≡ b → T (cond b (before (getD p k []) x) (eqb k (length p) && d)) → Follows p d x (suc k)
+    go : (b : Bool) → ltb k (length p) ≡ b → T (cond b (precedes (getD p k []) x) (eqb k (length p) && d)) → Follows p d x (suc k)
     go true e t = aside k (ltb-true k (length p) e) t
     go false e t =
         subst (λ (n : ℕ). Follows p d x (suc n)) (sym (eqb→eq k (length p) (and-left (eqb k (length p)) d t)))

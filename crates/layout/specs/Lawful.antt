@@ -9,7 +9,7 @@ use lib.IntN.{pos}
 use lib.ListN.{length, getD}
 use Rattle.text.specs.Utf8.{Bytes}
 use Rattle.path.specs.Path.{Name, names, body, same}
-use Rattle.model.specs.Tree.{Path, before}
+use Rattle.model.specs.Tree.{Path, precedes}
 use Rattle.model.specs.Prog.{isNil}
 use Rattle.model.specs.Rules.{nameOk, pathOk, targetOk, timeOk, bytesOk}
 use Rattle.layout.specs.Numbers.{mostEntries, leastBytes, mostBytes, fileNumbers, wordCount, cellBytes, pathsBytes}
@@ -23,7 +23,7 @@ use Rattle.layout.specs.Store.{Store, most, room, count, mask, hereLengt
 -- an entry stands behind another in its directory, with a greater name, or is the first in the directory before it
 abbrev pub follows : Path → Bool → ℕ → Name → Bool
 follows p d zero x = false
-follows p d (suc k) x = cond (ltb k (length p)) (before (getD p k []) x) (eqb k (length p) && d)
+follows p d (suc k) x = cond (ltb k (length p)) (precedes (getD p k []) x) (eqb k (length p) && d)
 
 -- an entry behind one of that path, which is or is not a directory
 abbrev pub entryOk : ℕ → Path → Bool → Row → Bool

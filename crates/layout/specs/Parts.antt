@@ -27,7 +27,7 @@ Behind q [] = Unit {0}
 Behind q (r ∷ rs) = T (follows q false (r .depth) (r .name))
 
 -- a new entry x of the directory q may stand between two parts of a walk
-pub record Gap (kind : ℕ → ℕ) (a b : List Row) (q : Path) (x : Name) : Type 0 where
+pub record Between (kind : ℕ → ℕ) (a b : List Row) (q : Path) (x : Name) : Type 0 where
   pub within : take (length q) (pathAfter [] a) ≡ q
   pub follows : T (follows (pathAfter [] a) (dirAfter kind false a) (suc (length q)) x)
   pub behind : Behind (q ++ (x ∷ [])) b

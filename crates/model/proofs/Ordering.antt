@@ -11,7 +11,7 @@ use lib.Dec.{ltb}
 use borrow.Author.Tests.{lt-ltb, le-ltb, eq-eqb, ne-eqb, ltb-true, ltb-false}
 use Rattle.text.specs.Utf8.{Bytes}
 use Rattle.path.specs.Path.{Name}
-use Rattle.model.specs.Tree.{before, insertBy, insert, inOrder}
+use Rattle.model.specs.Tree.{precedes, insertBy, insert, inOrder}
 use Rattle.model.proofs.Entries.{clash, some-inj, name-dec}
 
 -- ---- the order of names
@@ -29,39 +29,39 @@ sides a b = go (ltb a b) refl (ltb b a) refl
     go false e true k = more (ltb-true b a k)
     go false e false k = equal (omega (arith, ltb-false a b e, ltb-false b a k))
 
-pub cons-less : (a b : ℕ) (s t : Bytes) → a < b → before (a ∷ s) (b ∷ t) ≡ true
-unfolding before
+pub cons-less : (a b : ℕ) (s t : Bytes) → a < b → precedes (a ∷ s) (b ∷ t) ≡ true
+unfolding precedes
 cons-less a b s t h = rw (lt-ltb a b h)
 
-pub cons-more : (a b : ℕ) (s t : Bytes) → b < a → before (a ∷ s) (b ∷ t) ≡ false
-unfolding before
+pub cons-more : (a b : ℕ) (s t : Bytes) → b < a → precedes (a ∷ s) (b ∷ t) ≡ false
+unfolding precedes
 cons-more a b s t h = rw (le-ltb a b (omega arith), ne-eqb a b (λ e. omega arith))
 
-pub cons-equal : (a b : ℕ) (s t : Bytes) → a ≡ b → before (a ∷ s) (b ∷ t) ≡ before s t
-unfolding before
+pub cons-equal : (a b : ℕ) (s t : Bytes) → a ≡ b → precedes (a ∷ s) (b ∷ t) ≡ precedes s t
+unfolding precedes
 cons-equal a b s t h = rw (le-ltb a b (omega arith), eq-eqb a b h)
 
 -- of two different names one is before the other
-pub one-way : (x y : Bytes) → (x ≡ y → ⊥) → before x y ≡ not (before y x)
-unfolding before
+pub one-way : (x y : Bytes) → (x ≡ y → ⊥) → precedes x y ≡ not (precedes y x)
+unfolding precedes
 one-way [] [] n = absurd (n refl)
 one-way [] (b ∷ t) n = refl
 one-way (a ∷ s) [] n = refl
 one-way (a ∷ s) (b ∷ t) n = go (sides a b) (one-way s t)
   where
-    go : Sides a b → ((s ≡ t → ⊥) → before s t ≡ not (before t s)) → before (a ∷ s) (b ∷ t) ≡ not (before (b ∷ t) (a ∷ s))
+    go : Sides a b → ((s ≡ t → ⊥) → precedes s t ≡ not (precedes t s)) → precedes (a ∷ s) (b ∷ t) ≡ not (precedes (b ∷ t) (a ∷ s))
     go (less h) ih = cons-less a b s t h ∙ ap not (sym (cons-more b a t s h))
     go (equal h) ih = cons-equal a b s t h ∙ ih (λ e. n (let z : a ∷ s ≡ b ∷ t = cc in z)) ∙ ap not (sym (cons-equal b a t s (sym h)))
     go (more h) ih = cons-more a b s t h ∙ ap not (sym (cons-less b a t s h))
 
 -- no name is before itself
-pub not-itself : (x : Bytes) → before x x ≡ false
-unfolding before
+pub not-itself : (x : Bytes) → precedes x x ≡ false
+unfolding precedes
 not-itself [] = refl
 not-itself (a ∷ x) = cons-equal a a x x refl ∙ not-itself x
 
-pub joins : (x y z : Bytes) → before x y ≡ true → before y z ≡ true → before x z ≡ true
-unfolding before
+pub joins : (x y z : Bytes) → precedes x y ≡ true → precedes y z ≡ true → precedes x z ≡ true
+unfolding precedes
 joins [] [] z h k = absurd (false≢true h)
 joins [] (b ∷ t) [] h k = absurd (false≢true k)
 joins [] (b ∷ t) (c ∷ u) h k = refl
@@ -69,7 +69,7 @@ joins (a ∷ s) [] z h k = absurd (false≢true h)
 joins (a ∷ s) (b ∷ t) [] h k = absurd (false≢true k)
 joins (a ∷ s) (b ∷ t) (c ∷ u) h k = go (sides a b) (sides b c) (joins s t u)
   where
-    go : Sides a b → Sides b c → (before s t ≡ true → before t u ≡ true → before s u ≡ true) → before (a ∷ s) (c ∷ u) ≡ true
+    go : Sides a b → Sides b c → (precedes s t ≡ true → precedes t u ≡ true → precedes s u ≡ true) → precedes (a ∷ s) (c ∷ u) ≡ true
     go (more x) y ih = absurd (false≢true (sym (cons-more a b s t x) ∙ h))
     go (less x) (less y) ih = cons-less a c s u (omega arith)
     go (less x) (equal y) ih = cons-less a c s u (omega arith)
@@ -78,10 +78,10 @@ joins (a ∷ s) (b ∷ t) (c ∷ u) h k = go (sides a b) (sides b c) (joins s t 
     go (equal x) (more y) ih = absurd (false≢true (sym (cons-more b c t u y) ∙ k))
     go (equal x) (equal y) ih = cons-equal a c s u (x ∙ y) ∙ ih (sym (cons-equal a b s t x) ∙ h) (sym (cons-equal b c t u y) ∙ k)
 
-later : (p q r : Bytes) → before p r ≡ true → before q r ≡ false → before q p ≡ false
-later p q r h k = go (before q p) refl
+later : (p q r : Bytes) → precedes p r ≡ true → precedes q r ≡ false → precedes q p ≡ false
+later p q r h k = go (precedes q p) refl
   where
-    go : (x : Bool) → before q p ≡ x → before q p ≡ false
+    go : (x : Bool) → precedes q p ≡ x → precedes q p ≡ false
     go true y = absurd (false≢true (sym k ∙ joins q p r y h))
     go false y = y
 
@@ -95,12 +95,12 @@ module _ {A : Type 0} where
   -- the place of two does not depend on which comes first
   swap : (a b : Name × A) (l : List (Name × A)) → (a .0 ≡ b .0 → ⊥) → insert a (insert b l) ≡ insert b (insert a l)
   unfolding insert
-  swap a b [] n = flip (before (a .0) (b .0)) (before (b .0) (a .0)) a b [] (one-way (a .0) (b .0) n)
-  swap a b (f ∷ l) n = go (before (a .0) (f .0)) (before (b .0) (f .0)) refl refl (swap a b l n)
+  swap a b [] n = flip (precedes (a .0) (b .0)) (precedes (b .0) (a .0)) a b [] (one-way (a .0) (b .0) n)
+  swap a b (f ∷ l) n = go (precedes (a .0) (f .0)) (precedes (b .0) (f .0)) refl refl (swap a b l n)
     where
-      go : (x y : Bool) → before (a .0) (f .0) ≡ x → before (b .0) (f .0) ≡ y → insert a (insert b l) ≡ insert b (insert a l)
+      go : (x y : Bool) → precedes (a .0) (f .0) ≡ x → precedes (b .0) (f .0) ≡ y → insert a (insert b l) ≡ insert b (insert a l)
           → insert a (insert b (f ∷ l)) ≡ insert b (insert a (f ∷ l))
-      go true true h k ih = simp (h, k) (flip (before (a .0) (b .0)) (before (b .0) (a .0)) a b (f ∷ l) (one-way (a .0) (b .0) n))
+      go true true h k ih = simp (h, k) (flip (precedes (a .0) (b .0)) (precedes (b .0) (a .0)) a b (f ∷ l) (one-way (a .0) (b .0) n))
       go true false h k ih = simp (h, k, later (a .0) (b .0) (f .0) h k)
       go false true h k ih = simp (h, k, later (b .0) (a .0) (f .0) k h)
       go false false h k ih = simp (h, k) (ap (_∷_ f) ih)

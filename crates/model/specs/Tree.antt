@@ -181,12 +181,12 @@ newId (f ∷ fs) = max (suc (f .0)) (newId fs)
 
 -- ---- names in order
 
--- the order of byte strings
-unfoldable pub before : Bytes → Bytes → Bool
-before [] [] = false
-before [] (b ∷ t) = true
-before (a ∷ s) [] = false
-before (a ∷ s) (b ∷ t) = ltb a b || (eqb a b && before s t)
+-- one byte string comes before another: the order of names
+unfoldable pub precedes : Bytes → Bytes → Bool
+precedes [] [] = false
+precedes [] (b ∷ t) = true
+precedes (a ∷ s) [] = false
+precedes (a ∷ s) (b ∷ t) = ltb a b || (eqb a b && precedes s t)
 
 -- before the other, or behind it
 abbrev pub insertBy : {A : Type 0} → Bool → A → A → List A → List A → List A
@@ -196,7 +196,7 @@ insertBy false a b l rest = b ∷ rest
 -- "Names in a directory rise strictly by byte order"
 unfoldable pub insert : {A : Type 0} → Name × A → List (Name × A) → List (Name × A)
 insert e [] = e ∷ []
-insert e (f ∷ l) = insertBy (before (e .0) (f .0)) e f l (insert e l)
+insert e (f ∷ l) = insertBy (precedes (e .0) (f .0)) e f l (insert e l)
 
 -- each put in its place
 unfoldable pub inOrder : {A : Type 0} → List (Name × A) → List (Name × A)

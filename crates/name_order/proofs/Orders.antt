@@ -9,7 +9,7 @@ use native.Mathlib.Omega.{arith}
 use lib.ListN.{length, drop, getD, drop-of-length-le}
 use lib.Seq.{drop-cons}
 use Rattle.text.specs.Utf8.{Bytes}
-use Rattle.model.specs.Tree.{before}
+use Rattle.model.specs.Tree.{precedes}
 use Rattle.model.proofs.Entries.{name-dec}
 use Rattle.model.proofs.Ordering.{cons-less, cons-equal, one-way, not-itself, joins}
 use Rattle.name_order.specs.Order.{orderOf}
@@ -19,20 +19,20 @@ use Rattle.name_order.specs.declared.Order.the-variants.{Less, Same, Mor
 -- ---- what stands before what
 
 -- not both stand before the other
-pub asymmetric : (x y : Bytes) → before x y ≡ true → before y x ≡ false
-asymmetric x y h = go (before y x) refl
+pub asymmetric : (x y : Bytes) → precedes x y ≡ true → precedes y x ≡ false
+asymmetric x y h = go (precedes y x) refl
   where
-    go : (v : Bool) → before y x ≡ v → before y x ≡ false
+    go : (v : Bool) → precedes y x ≡ v → precedes y x ≡ false
     go true k = absurd (false≢true (sym (not-itself x) ∙ joins x y x h k))
     go false k = k
 
 -- ---- the answer
 
-pub order-of-before : (x y : Bytes) → before x y ≡ true → orderOf x y ≡ Less
+pub order-of-before : (x y : Bytes) → precedes x y ≡ true → orderOf x y ≡ Less
 unfolding orderOf
 order-of-before x y h = rw h
 
-pub order-of-behind : (x y : Bytes) → before y x ≡ true → orderOf x y ≡ More
+pub order-of-behind : (x y : Bytes) → precedes y x ≡ true → orderOf x y ≡ More
 unfolding orderOf
 order-of-behind x y h = rw (asymmetric y x h, h)
 
@@ -47,21 +47,21 @@ order-cons a b s t h = rw (cons-equal a b s t h, cons-equal b a t s (sym h))
 
 -- the three cases of two names
 pub data Compared (x y : Bytes) : Type 0 where
-  below : before x y ≡ true → Compared x y
+  below : precedes x y ≡ true → Compared x y
   alike : x ≡ y → Compared x y
-  above : before y x ≡ true → Compared x y
+  above : precedes y x ≡ true → Compared x y
 
 -- one of two names is before the other, or they are one
 pub compared : (x y : Bytes) → Compared x y
 compared x y = go (name-dec x y)
   where
-    by : (x ≡ y → ⊥) → (v : Bool) → before y x ≡ v → Compared x y
+    by : (x ≡ y → ⊥) → (v : Bool) → precedes y x ≡ v → Compared x y
     by n true k = above k
     by n false k = below (one-way x y n ∙ ap not k)
 
     go : Dec (x ≡ y) → Compared x y
     go (yes e) = alike e
-    go (no n) = by n (before y x) refl
+    go (no n) = by n (precedes y x) refl
 
 abbrev number : Order → ℕ
 number Less = 0
@@ -78,10 +78,10 @@ more-same : More ≡ Same → ⊥
 more-same e = let z : _≡_ {A = ℕ} 2 1 = ap number e in omega (arith, z)
 
 -- the answer Less, Same, More says which
-pub before-of-less : (x y : Bytes) → orderOf x y ≡ Less → before x y ≡ true
+pub before-of-less : (x y : Bytes) → orderOf x y ≡ Less → precedes x y ≡ true
 before-of-less x y h = go (compared x y)
   where
-    go : Compared x y → before x y ≡ true
+    go : Compared x y → precedes x y ≡ true
     go (below k) = k
     go (alike k) = absurd (less-same (sym h ∙ ap (orderOf x) (sym k) ∙ order-of-same x))
     go (above k) = absurd (less-more (sym h ∙ order-of-behind x y k))
@@ -94,10 +94,10 @@ same-of-same x y h = go (compared x y)
     go (alike k) = k
     go (above k) = absurd (more-same (sym (order-of-behind x y k) ∙ h))
 
-pub behind-of-more : (x y : Bytes) → orderOf x y ≡ More → before y x ≡ true
+pub behind-of-more : (x y : Bytes) → orderOf x y ≡ More → precedes y x ≡ true
 behind-of-more x y h = go (compared x y)
   where
-    go : Compared x y → before y x ≡ true
+    go : Compared x y → precedes y x ≡ true
     go (below k) = absurd (less-more (sym (order-of-before x y k) ∙ h))
     go (alike k) = absurd (more-same (sym h ∙ ap (orderOf x) (sym k) ∙ order-of-same x))
     go (above k) = k
@@ -109,11 +109,11 @@ module _ (a b : Bytes) (i : ℕ) where
   order-end h k = rw (drop-of-length-le a h, drop-of-length-le b k) (order-of-same [])
 
   pub order-short : length a ≤ i → i < length b → orderOf (drop i a) (drop i b) ≡ Less
-  unfolding orderOf before
+  unfolding orderOf precedes
   order-short h k = rw (drop-of-length-le a h, drop-cons b i 0 k)
 
   pub order-long : i < length a → length b ≤ i → orderOf (drop i a) (drop i b) ≡ More
-  unfolding orderOf before
+  unfolding orderOf precedes
   order-long h k = rw (drop-cons a i 0 h, drop-of-length-le b k)
 
   pub order-less : i < length a → i < length b → getD a i 0 < getD b i 0 → orderOf (drop i a) (drop i b) ≡ Less

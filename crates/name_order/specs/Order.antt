@@ -7,7 +7,7 @@ use Prim.Native.Nat.{ℕ, zero, suc, _+_, _*_, _≤_}
 use lib.Dec.{ltb}
 use lib.ListN.{getD}
 use Rattle.text.specs.Utf8.{Bytes}
-use Rattle.model.specs.Tree.{before}
+use Rattle.model.specs.Tree.{precedes}
 use Rattle.name_order.specs.declared.Order.{Order}
 use Rattle.name_order.specs.declared.Order.the-variants.{Less, Same, More}
 
@@ -18,7 +18,7 @@ pick false a b = b
 
 -- the first is before the second, the second before the first, or neither
 unfoldable pub orderOf : Bytes → Bytes → Order
-orderOf a b = pick (before a b) Less (pick (before b a) More Same)
+orderOf a b = pick (precedes a b) Less (pick (precedes b a) More Same)
 
 -- n is the lesser of two lengths
 pub record Shorter (x y n : ℕ) : Type 0 where

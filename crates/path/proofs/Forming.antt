@@ -9,7 +9,7 @@ use lib.ListN.{length, take, drop, length-append}
 use lib.Seq.{length-take-le, take-at, drop-at, take-take}
 use borrow.Author.Tests.{le-leb, lt-leb}
 use Rattle.text.specs.Utf8.{Bytes}
-use Rattle.blocks.specs.Gap.{moved}
+use Rattle.blocks.specs.Moved.{moved}
 use Rattle.blocks.proofs.Laws.{moved-split}
 use Rattle.path.specs.Path.{Name, names, norm, normal, from, isAbsolute, absolute, body}
 use Rattle.path.specs.Backward.{sifted, dropN, Sifted, part}

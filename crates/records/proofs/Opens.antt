@@ -6,7 +6,7 @@ use Prim.Native.Nat.{ℕ, _+_, _-_, _≤_, _<_}
 use native.Mathlib.Omega.{arith}
 use lib.ListN.{length, take, drop, set, length-append}
 use lib.Seq.{paste, length-take-le, take-at, drop-at, take-take, length-slice, set-at}
-use Rattle.blocks.specs.Gap.{moved}
+use Rattle.blocks.specs.Moved.{moved}
 use Rattle.blocks.proofs.Cuts.{quarter, up, over}
 use Rattle.layout.specs.Fields.{nlenOf}
 use Rattle.layout.specs.Rows.{Row, rows, nameTotal}

@@ -11,7 +11,7 @@ use borrow.Author.Tests.{ne-eqb}
 use lib.Dec.{eqb}
 use lib.ListN.{length, take, drop, getD, set, length-append, List·getD-append, drop-of-length-le}
 use lib.Seq.{length-take-le, take-append-le, take-all, take-take, take-suc, drop-cons, getD-take, set-at, append-snoc}
-use Rattle.blocks.specs.Gap.{moved}
+use Rattle.blocks.specs.Moved.{moved}
 use Rattle.blocks.proofs.Cuts.{up}
 use Rattle.layout.specs.Fields.{lenOf}
 use Rattle.layout.specs.Slots.{total, start, contents}

@@ -7,7 +7,7 @@ use denote.Ref.{now}
 use Prim.Native.Nat.{ℕ, _+_, _-_, _≤_}
 use lib.Dec.{eqb}
 use lib.ListN.{length, take, set, getD, replicate}
-use Rattle.blocks.specs.Gap.{moved}
+use Rattle.blocks.specs.Moved.{moved}
 use Rattle.layout.specs.Fields.{lenOf}
 use Rattle.layout.specs.Lent.{Slices}
 use Rattle.layout.specs.Slots.{total, start, contents}

@@ -27,13 +27,13 @@ use Rattle.layout.specs.Fields.{kindOf}
 use Rattle.layout.specs.Rows.{Row, nameTotal, pathOf}
 use Rattle.layout.specs.Store.{Store, most, room, count, extent, live, rowsOf, kindAt, state}
 use Rattle.layout.specs.Lawful.{follows, uses, Lawful}
-use Rattle.layout.specs.Parts.{pathAfter, Gap}
+use Rattle.layout.specs.Parts.{pathAfter, Between}
 use Rattle.layout.proofs.Edited.Parted.{Has, has-first, dir-slots, after-both}
 use Rattle.layout.proofs.Named.{nameSum, name-offset}
 use Rattle.layout.proofs.Roots.{all-slots}
 use Rattle.layout.proofs.Used.{entries-used, bytes-used}
 use Rattle.layout.proofs.Walks.{SlotsIn}
-use Rattle.ask_find.specs.declared.Gap as place
+use Rattle.ask_find.specs.declared.Gap.{Gap}
 use Rattle.ask_find.specs.declared.Spot.{Spot}
 use Rattle.ask_find.specs.Spots.{At, Room, between, instead, Vacant}
 use Rattle.ask_find.proofs.Records.{rows-long, total-live, path-look}
@@ -73,7 +73,7 @@ pub slot-below : (st : Store) → Lawful st → (k : ℕ) → Has (rowsOf st) k 
 slot-below st l k h = has-low (length (st .heads)) (rowsOf st) (all-slots (kindAt st) (length (st .heads)) (rowsOf st) (l .entries)) k h
 
 -- a place between entries, by what kinds their slots have
-pub gap-by : (f g : ℕ → ℕ) (a b : List Row) (q : Path) (x : Name) → ((k : ℕ) → Has a k → f k ≡ g k) → Gap g a b q x → Gap f a b q x
+pub gap-by : (f g : ℕ → ℕ) (a b : List Row) (q : Path) (x : Name) → ((k : ℕ) → Has a k → f k ≡ g k) → Between g a b q x → Between f a b q x
 gap-by f g a b q x h z = record {
   within = z .within;
   follows = subst (λ (d : Bool). T (follows (pathAfter [] a) d (suc (length q)) x)) (sym (dir-slots f g false a h)) (z .follows);
@@ -100,10 +100,10 @@ module _ {st u : Store} {s : State} (h : Shows st s) (r : Resized st u) (recs : 
       let d : k < extent u = omega (arith, b, r .roomy .lawful .exact .heads) in
       ap kindOf (getD-take (extent u) (u .heads) k 0 d ∙ (heads k c ∙ sym (getD-take (extent st) (st .heads) k 0 c)))
 
-  pub gap-resized : (k : ℕ) (d : Path) (x : Name) → Gap (kindAt (trim st)) (take k (rowsOf (trim st))) (drop k (rowsOf (trim st))) d x
-      → Gap (kindAt (trim u)) (take k (rowsOf (trim u))) (drop k (rowsOf (trim u))) d x
+  pub gap-resized : (k : ℕ) (d : Path) (x : Name) → Between (kindAt (trim st)) (take k (rowsOf (trim st))) (drop k (rowsOf (trim st))) d x
+      → Between (kindAt (trim u)) (take k (rowsOf (trim u))) (drop k (rowsOf (trim u))) d x
   gap-resized k d x g =
-      subst (λ (rs : List Row). Gap (kindAt (trim u)) (take k rs) (drop k rs) d x) (sym same-rows)
+      subst (λ (rs : List Row). Between (kindAt (trim u)) (take k rs) (drop k rs) d x) (sym same-rows)
       (gap-by (kindAt (trim u)) (kindAt (trim st)) (take k (rowsOf (trim st))) (drop k (rowsOf (trim st))) d x (λ i z. same-kinds i (has-take k (rowsOf (trim st)) i z)) g)
 
 -- ---- a slot reserved
@@ -151,7 +151,7 @@ module _ {st u : Store} {s : State} (h : Shows st s) (r : Reserved st u) (recs :
 
   -- ---- what an insertion asks
 
-  pub insert-may : (x : Name) (gap : place.Gap) (kind m : ℕ) (t : Time) (c : Bytes) (d : Path) → T (nameOk x) → Holds kind c
+  pub insert-may : (x : Name) (gap : Gap) (kind m : ℕ) (t : Time) (c : Bytes) (d : Path) → T (nameOk x) → Holds kind c
       → MayMake x gap (λ p. insertion kind p m t c) st s d → MayInsert (trim u) (gap .at) (gap .depth) d x kind c
   insert-may x gap kind m t c d n o f = record {
     vacant = record {
@@ -176,7 +176,7 @@ module _ {st u : Store} {s : State} (h : Shows st s) (r : Reserved st u) (recs :
       may = allowed d x kind m t c o (f .fits) missing
 
       -- an entry that counts as out has another path
-      room-between : Room (trim st) (f .free .hidden) d x (gap .at) → Gap (kindAt (trim st)) (take (gap .at) (rowsOf (trim st))) (drop (gap .at) (rowsOf (trim st))) d x
+      room-between : Room (trim st) (f .free .hidden) d x (gap .at) → Between (kindAt (trim st)) (take (gap .at) (rowsOf (trim st))) (drop (gap .at) (rowsOf (trim st))) d x
       room-between (between g) = g
       room-between (instead a b z g) =
           clash (look (state (trim st) .tree) (d ++ (x ∷ []))) _ (look-missing st s h (d ++ (x ∷ [])) (f .free .missing))
@@ -222,7 +222,7 @@ same-inserted {a = a} {v = v} {k = k} {kind = kind} {m = m} {c = c} {q = q} {x =
 
 -- the spot of the gap is the new entry's
 module _ {st u v : Store} {s : State} (h : Shows st s) (r : Reserved st u) (recs : u .records ≡ st .records) (bs : u .bytes ≡ st .bytes) where
-  pub stands-new : {x : Name} {kind m n : ℕ} {t : Time} {c : Bytes} {d : Path} (gap : place.Gap) → Vacant (trim st) n d x gap → MayInsert (trim u) (gap .at) (gap .depth) d x kind c
+  pub stands-new : {x : Name} {kind m n : ℕ} {t : Time} {c : Bytes} {d : Path} (gap : Gap) → Vacant (trim st) n d x gap → MayInsert (trim u) (gap .at) (gap .depth) d x kind c
       → InsertedAt (trim u) v (gap .at) d x kind m t c → Stands (whole u v) (record { at = gap .at; off = gap .off }) (d ++ (x ∷ []))
   stands-new {x = x} {kind = kind} {m = m} {t = t} {c = c} {d = d} gap a may z =
       subst (λ (y : Store). At y (record { at = gap .at; off = gap .off }) (d ++ (x ∷ []))) (sym (trim-whole u v (z .spells .lawful)))
@@ -231,10 +231,10 @@ module _ {st u v : Store} {s : State} (h : Shows st s) (r : Reserved st u) (recs
 
 -- ---- by another way to say the time
 
-pub may-at : {x : Name} {gap : place.Gap} {st : Store} {s : State} {d : Path} (kind m : ℕ) (c : Bytes) {t u : Time} → t ≡ u → MayMake x gap (λ p. insertion kind p m t c) st s d
+pub may-at : {x : Name} {gap : Gap} {st : Store} {s : State} {d : Path} (kind m : ℕ) (c : Bytes) {t u : Time} → t ≡ u → MayMake x gap (λ p. insertion kind p m t c) st s d
     → MayMake x gap (λ p. insertion kind p m u c) st s d
 may-at {x = x} {gap = gap} {st = st} {s = s} {d = d} kind m c e f = subst (λ (y : Time). MayMake x gap (λ p. insertion kind p m y c) st s d) e f
 
-pub makes-at : (x : Name) (gap : place.Gap) (spot : Spot) (st v : Store) (kind m : ℕ) (c : Bytes) {t u : Time} → t ≡ u → Makes x gap (λ p. insertion kind p m t c) spot st v
+pub makes-at : (x : Name) (gap : Gap) (spot : Spot) (st v : Store) (kind m : ℕ) (c : Bytes) {t u : Time} → t ≡ u → Makes x gap (λ p. insertion kind p m t c) spot st v
     → Makes x gap (λ p. insertion kind p m u c) spot st v
 makes-at x gap spot st v kind m c e f = subst (λ (y : Time). Makes x gap (λ p. insertion kind p m y c) spot st v) e f

@@ -16,7 +16,7 @@ use Rattle.model.proofs.Entries.{behind-self, cut-in}
 use Rattle.layout.specs.Rows.{Row, nameTotal}
 use Rattle.layout.specs.Store.{Store, lent, count, rowsOf, kindAt}
 use Rattle.layout.specs.Lawful.{uses, Lawful}
-use Rattle.layout.specs.Parts.{Gap}
+use Rattle.layout.specs.Parts.{Between}
 use Rattle.layout.proofs.Edited.Parted.{Has, has-first}
 use Rattle.layout.proofs.Named.{nameSum}
 use Rattle.ask_find.specs.declared.Spot.{Spot}
@@ -69,12 +69,12 @@ module _ {st : Store} {s : State} (h : Shows st s) (spot : Spot) (d : Path) (x :
     in-left : (n : ℕ) → Has (take i rs) n → 0 < uses n (rowsOf v)
     in-left n q = omega (arith, subst (λ (l : List Row). Has l n) (sym (k .rows)) (has-first (take i rs) (drop e rs) n q))
 
-    gap-left : Gap (kindAt v) (take i (rowsOf v)) (drop i (rowsOf v)) d x
+    gap-left : Between (kindAt v) (take i (rowsOf v)) (drop i (rowsOf v)) d x
     gap-left =
-        subst (λ (b : List Row). Gap (kindAt v) (take i (rowsOf v)) b d x) (sym rear)
-        (subst (λ (b : List Row). Gap (kindAt v) b (drop e rs) d x) (sym front)
+        subst (λ (b : List Row). Between (kindAt v) (take i (rowsOf v)) b d x) (sym rear)
+        (subst (λ (b : List Row). Between (kindAt v) b (drop e rs) d x) (sym front)
         (gap-by (kindAt v) (kindAt (trim st)) (take i rs) (drop e rs) d x (λ n q. k .kinds n (in-left n q))
-        (subst (λ (n : ℕ). Gap (kindAt (trim st)) (take i rs) (drop n rs) d x) (sym z) (gap-instead (trim st) l i (a .within) d x (a .path)))))
+        (subst (λ (n : ℕ). Between (kindAt (trim st)) (take i rs) (drop n rs) d x) (sym z) (gap-instead (trim st) l i (a .within) d x (a .path)))))
 
     within : i ≤ count v
     within = omega (arith, ap length (k .rows), length-append (take i rs) (drop e rs), front-long, rows-long v (k .spells .lawful))
@@ -88,8 +88,8 @@ module _ {st : Store} {s : State} (h : Shows st s) (spot : Spot) (d : Path) (x :
     pub removed-free : {u : Store} → Shows (whole st v) (edited (remove p) s) → Resized (whole st v) u → u .records ≡ v .records → u .bytes ≡ v .bytes → u .heads ≡ whole st v .heads
         → FreePlace x (placeOf spot (length p)) u (edited (remove p) s) d
     removed-free {u = u} w r recs bs hs =
-        let n : Gap (kindAt (trim (whole st v))) (take i (rowsOf (trim (whole st v)))) (drop i (rowsOf (trim (whole st v)))) d x =
-        subst (λ (y : Store). Gap (kindAt y) (take i (rowsOf y)) (drop i (rowsOf y)) d x) (sym (trim-whole st v (k .spells .lawful))) gap-left in
+        let n : Between (kindAt (trim (whole st v))) (take i (rowsOf (trim (whole st v)))) (drop i (rowsOf (trim (whole st v)))) d x =
+        subst (λ (y : Store). Between (kindAt y) (take i (rowsOf y)) (drop i (rowsOf y)) d x) (sym (trim-whole st v (k .spells .lawful))) gap-left in
         record {
           hidden = count u;
           vacant = record {

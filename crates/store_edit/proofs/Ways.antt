@@ -24,10 +24,10 @@ use Rattle.layout.specs.Slots.{total}
 use Rattle.layout.specs.Store.{Store, room, count, live, rowsOf, kindAt, nodeAt, state}
 use Rattle.layout.specs.Lawful.{rowsOk, Lawful}
 use Rattle.layout.specs.Alike.{Spells}
-use Rattle.layout.specs.Parts.{pathAfter, Gap}
+use Rattle.layout.specs.Parts.{pathAfter, Between}
 use Rattle.layout.proofs.Used.{bytes-used}
 use Rattle.ask_find.specs.declared.Spot.{Spot}
-use Rattle.ask_find.specs.declared.Gap as place
+use Rattle.ask_find.specs.declared.Gap.{Gap}
 use Rattle.ask_find.specs.Paths.{slotAt, rowAt, pathAt}
 use Rattle.ask_find.specs.Spots.{blockEnd, Room, between, instead}
 use Rattle.ask_find.proofs.Blocks.{front, block, Block, block-after, block-last, block-parts}
@@ -64,7 +64,7 @@ module _ (st : Store) (l : Lawful st) (i : ℕ) (h : i < count st) (q : Path) (y
   slots = length (st .heads)
 
   -- nothing stands at the path of a gap
-  nothing : Gap kinds (take k (rowsOf st)) (drop k (rowsOf st)) q y → (u r : Path) → behind (q ++ (y ∷ [])) u ≡ some r → look (state st .tree) u ≡ none
+  nothing : Between kinds (take k (rowsOf st)) (drop k (rowsOf st)) q y → (u r : Path) → behind (q ++ (y ∷ [])) u ≡ some r → look (state st .tree) u ≡ none
   nothing g u r w =
       let b = take-append-drop k (rowsOf st) in
       ap (λ (rs : List Row). look (treeFrom (nodeAt st) [] rs) u) (sym b)
@@ -101,14 +101,14 @@ module _ (st : Store) (l : Lawful st) (i : ℕ) (h : i < count st) (q : Path) (y
         go (between g) =
             beside kinds slots (slotAt st i) (slot-low st l i h) q y ok (rowAt st 0) (front st i) (rowAt st i) (block st i e) (drop e (rowsOf st))
             (subst (λ (rs : List Row). T (rowsOk kinds slots rs)) (parts .parts) (l .entries)) (parts .deeper) (parts .beyond) i e k from to first (omega (arith, last, rows-long st l, ap length (parts .parts)))
-            (subst (λ (rs : List Row). Gap kinds (take k rs) (drop k rs) q y) (parts .parts) g) (λ u v. ap (λ (p : Path). behind p q) (parts .path) ∙ out u v)
+            (subst (λ (rs : List Row). Between kinds (take k rs) (drop k rs) q y) (parts .parts) g) (λ u v. ap (λ (p : Path). behind p q) (parts .path) ∙ out u v)
         go (instead b c d g) =
             record {
               a₂ = before;
               b₂ = drop e (rowsOf st);
               place = ahead before [] (sym (append-nil before)) (c ∙ from) refl refl;
               notFirst = λ f. omega (arith, ap length f);
-              gap = subst (λ (rs : List Row). Gap kinds rs (drop e (rowsOf st)) q y) (parts .first) (subst (λ (m : ℕ). Gap kinds (take i (rowsOf st)) (drop m (rowsOf st)) q y) (sym z) g);
+              gap = subst (λ (rs : List Row). Between kinds rs (drop e (rowsOf st)) q y) (parts .first) (subst (λ (m : ℕ). Between kinds (take i (rowsOf st)) (drop m (rowsOf st)) q y) (sym z) g);
             }
 
     pub way : (depth : ℕ) → depth ≡ suc (length q) → nameTotal (live st) + length y + total (st .heads) ≤ room st + length (rowAt st i .name) → Way st i e k depth q y
@@ -153,7 +153,7 @@ not-above : (p d : Path) → behind p d ≡ none → p ≡ [] → ⊥
 unfolding behind
 not-above p d n e = clash (behind p d) d n (ap (λ (q : Path). behind q d) e)
 
-module _ (st : Store) (s : State) (sh : Shows st s) (spot : Spot) (p d : Path) (gap : place.Gap) (y : Name) (a : Stands st spot p) (m : MayMove spot gap y st s p d)
+module _ (st : Store) (s : State) (sh : Shows st s) (spot : Spot) (p d : Path) (gap : Gap) (y : Name) (a : Stands st spot p) (m : MayMove spot gap y st s p d)
     (ok : T (nameOk y)) (e : ℕ) (z : e ≡ blockEnd (trim st) (spot .at)) where
   abbrev l : Lawful (trim st)
   l = sh .roomy .lawful

@@ -23,9 +23,9 @@ use Rattle.layout.specs.Store.{Store, count, rowsOf, kindAt, state}
 use Rattle.layout.specs.Lawful.{Lawful}
 use Rattle.lawful.specs.Parts.{pieceOk}
 use Rattle.lawful.proofs.KeptPaths.{piece-name}
-use Rattle.layout.specs.Parts.{pathAfter, Gap}
+use Rattle.layout.specs.Parts.{pathAfter, Between}
 use Rattle.layout.proofs.Edited.Removing.{begins, rises-behind}
-use Rattle.ask_find.specs.declared.Gap as place
+use Rattle.ask_find.specs.declared.Gap.{Gap}
 use Rattle.ask_find.specs.Paths.{pathAt}
 use Rattle.ask_find.specs.Spots.{At, Room, between, instead, Vacant}
 use Rattle.ask_find.proofs.Records.{path-rises}
@@ -48,7 +48,7 @@ pub holds-nothing : (kind : ℕ) (s : Bytes) → kind ≡ 1 → length s ≡ 0 �
 holds-nothing kind s z e = subst (λ (k : ℕ). Holds k s) (sym z) (nothing s e)
 
 -- the place of a missing entry stands behind its directory: the path before it begins with the directory's
-after-dir : (st : Store) (l : Lawful st) (i k : ℕ) (x : Name) → i < count st → 0 < k → k ≤ count st → Gap (kindAt st) (take k (rowsOf st)) (drop k (rowsOf st)) (pathAt st i) x → i < k
+after-dir : (st : Store) (l : Lawful st) (i k : ℕ) (x : Name) → i < count st → 0 < k → k ≤ count st → Between (kindAt st) (take k (rowsOf st)) (drop k (rowsOf st)) (pathAt st i) x → i < k
 after-dir st l i k x h a b g = go (leb k i) refl
   where
     e : k ≡ suc (k - 1)
@@ -64,7 +64,7 @@ after-dir st l i k x h a b g = go (leb k i) refl
 pub at-record : (st : Store) (i o : ℕ) → i < count st → o ≡ nameTotal (take i (st .records)) → At st (record { at = i; off = o }) (pathAt st i)
 at-record st i o h e = record { within = h; offset = e; path = refl }
 
-pub spotted : (st : Store) (l : Lawful st) (i : ℕ) → i < count st → (x : Name) → T (nameOk x) → (g : place.Gap) → look (state st .tree) (pathAt st i ++ (x ∷ [])) ≡ none
+pub spotted : (st : Store) (l : Lawful st) (i : ℕ) → i < count st → (x : Name) → T (nameOk x) → (g : Gap) → look (state st .tree) (pathAt st i ++ (x ∷ [])) ≡ none
     → Vacant st (count st) (pathAt st i) x g → Spotted st i (g .at) (g .depth) x
 spotted st l i h x n g e v = go (v .room)
   where

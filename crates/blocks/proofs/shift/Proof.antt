@@ -2,7 +2,7 @@
 use mathlib.Core.Path.{_≡_, _∙_, ap₂}
 use Prim.Native.Nat.{ℕ, _+_, _-_}
 use native.Mathlib.Omega.{arith}
-use Rattle.blocks.specs.Gap.{moved}
+use Rattle.blocks.specs.Moved.{moved}
 use borrow.Author.Needs.{needs}
 use Rattle.blocks.proofs.shift.Statement.{statement}
 use Rattle.blocks.proofs.shift.Tie as tie

@@ -14,7 +14,7 @@ use lib.Seq.{length-take-le, getD-take, getD-append-seam, take-length, take-take
 use borrow.Author.Tests.{lt-ltb, le-ltb, eq-eqb}
 use Rattle.path.specs.Path.{Name}
 use Rattle.path.proofs.Laws.{and-left, and-right}
-use Rattle.model.specs.Tree.{Path, Node, before, look, behind}
+use Rattle.model.specs.Tree.{Path, Node, precedes, look, behind}
 use Rattle.model.proofs.Entries.{clash, look-none, look-past}
 use Rattle.layout.specs.Rows.{Row, pathBy, pathOf, treeFrom}
 use Rattle.layout.specs.Lawful.{follows, walkOk}
@@ -78,12 +78,12 @@ module _ (kind : ℕ → ℕ) (n : ℕ) (p : Path) (e : Bool) (row : Row) (x b :
     pub place : ℕ
     pub deep : r .depth ≡ suc place
     pub within : place ≤ d
-    pub greater : T (before (getD at place []) (r .name))
+    pub greater : T (precedes (getD at place []) (r .name))
 
   next : (r : Row) (k : ℕ) → r .depth ≡ k → k ≤ suc d → Follows end (dirAfter kind (eqb (kind (row .slot)) 1) x) (r .name) k → Next r
   next r k f h (aside j y z) =
       let u : getD end j [] ≡ getD at j [] = sym (getD-take (suc d) end j [] (omega arith)) ∙ ap (λ (q : Path). getD q j []) end-keeps in
-      record { place = j; deep = f; within = omega arith; greater = subst (λ (m : Name). T (before m (r .name))) u z }
+      record { place = j; deep = f; within = omega arith; greater = subst (λ (m : Name). T (precedes m (r .name))) u z }
   next r k f h (below y) = absurd (omega (arith, end-long))
 
   pub first-next : (r : Row) (c : List Row) → b ≡ r ∷ c → Next r
@@ -105,13 +105,13 @@ module _ (kind : ℕ → ℕ) (n : ℕ) (p : Path) (e : Bool) (row : Row) (x b :
       go (r ∷ c) f = start-at r (first-next r c f)
 
   -- behind the entry, or first in its directory
-  stand-last : (k : Name) → Follows p e (row .name) (suc d) → T (before (row .name) k) → T (follows p e (suc d) k)
+  stand-last : (k : Name) → Follows p e (row .name) (suc d) → T (precedes (row .name) k) → T (follows p e (suc d) k)
   stand-last k f g = go (suc d) refl f
     where
       go : (m : ℕ) → m ≡ suc d → Follows p e (row .name) m → T (follows p e (suc d) k)
       go m z (aside j y u) =
           let w : j ≡ d = omega arith in
-          rw (lt-ltb d (length p) (omega arith)) (before-both (getD p d []) (row .name) k (subst (λ (i : ℕ). T (before (getD p i []) (row .name))) w u) g)
+          rw (lt-ltb d (length p) (omega arith)) (before-both (getD p d []) (row .name) k (subst (λ (i : ℕ). T (precedes (getD p i []) (row .name))) w u) g)
       go m z (below y) =
           let w : d ≡ length p = omega arith in
           rw (le-ltb d (length p) (omega arith), eq-eqb d (length p) w, y) tt
@@ -122,10 +122,10 @@ module _ (kind : ℕ → ℕ) (n : ℕ) (p : Path) (e : Bool) (row : Row) (x b :
       go : Dec (y .place ≡ d) → T (follows p e (suc (y .place)) (r .name))
       go (yes f) =
           subst (λ (k : ℕ). T (follows p e (suc k) (r .name))) (sym f)
-          (stand-last (r .name) first (subst (λ (m : Name). T (before m (r .name))) (ap (λ (k : ℕ). getD at k []) f ∙ getD-last d p (row .name) low) (y .greater)))
+          (stand-last (r .name) first (subst (λ (m : Name). T (precedes m (r .name))) (ap (λ (k : ℕ). getD at k []) f ∙ getD-last d p (row .name) low) (y .greater)))
       go (no f) =
           rw (lt-ltb (y .place) (length p) (omega (arith, y .within, low, f)))
-          (subst (λ (m : Name). T (before m (r .name))) (getD-kept d (y .place) p (row .name) (omega (arith, y .within, f)) low) (y .greater))
+          (subst (λ (m : Name). T (precedes m (r .name))) (getD-kept d (y .place) p (row .name) (omega (arith, y .within, f)) low) (y .greater))
 
   pub behind-stand : MayStand p e b
   behind-stand = go b refl

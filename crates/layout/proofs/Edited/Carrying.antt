@@ -13,7 +13,7 @@ use Rattle.model.specs.Rules.{nameOk}
 use Rattle.model.proofs.Entries.{behind-self, under-look, give-in, give-out}
 use Rattle.layout.specs.Rows.{Row, pathOf, treeFrom}
 use Rattle.layout.specs.Lawful.{walkOk, rowsOk, uses}
-use Rattle.layout.specs.Parts.{pathAfter, Gap, Deeper, NotDeeper, deepen}
+use Rattle.layout.specs.Parts.{pathAfter, Between, Deeper, NotDeeper, deepen}
 use Rattle.layout.proofs.Edited.Deepening.{walk-below, tree-below, uses-deepen}
 use Rattle.layout.proofs.Edited.Moving.{tree-block, rows-block, look-in, look-out}
 use Rattle.layout.proofs.Edited.Parted.{tree-both, uses-both}
@@ -27,7 +27,7 @@ deeper-still u v (r ∷ rs) h = (omega (arith, h .0), deeper-still u v rs (h .1)
 
 module _ (kind : ℕ → ℕ) (n : ℕ) (root : Row) (a : List Row) (row : Row) (x b : List Row) (t : T (rowsOk kind n (root ∷ (a ++ (row ∷ (x ++ b))))))
     (dx : Deeper (row .depth) x) (nb : NotDeeper (row .depth) b)
-    (a₂ b₂ : List Row) (parts : root ∷ (a ++ b) ≡ a₂ ++ b₂) (q : Path) (y : Name) (g : Gap kind a₂ b₂ q y) where
+    (a₂ b₂ : List Row) (parts : root ∷ (a ++ b) ≡ a₂ ++ b₂) (q : Path) (y : Name) (g : Between kind a₂ b₂ q y) where
   -- the old path and the new one
   abbrev old : Path
   old = pathOf (pathAfter [] a) row

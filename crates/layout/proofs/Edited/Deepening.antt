@@ -12,7 +12,7 @@ use lib.Seq.{take-append-add, getD-append-add}
 use borrow.Author.Tests.{lt-ltb, le-ltb, eq-eqb}
 use Rattle.path.specs.Path.{Name}
 use Rattle.path.proofs.Laws.{and-left, and-right, and-both}
-use Rattle.model.specs.Tree.{Path, Node, Entries, before, graft}
+use Rattle.model.specs.Tree.{Path, Node, Entries, precedes, graft}
 use Rattle.model.specs.Rules.{nameOk}
 use Rattle.layout.specs.Rows.{Row, pathBy, pathOf, treeFrom}
 use Rattle.layout.specs.Lawful.{follows, entryOk, walkOk, uses}
@@ -33,7 +33,7 @@ follows-below p q s d k x t = go (suc (length p + k)) refl (follows-by (p ++ s) 
         let z : j ≡ length p + k = omega arith in
         let u : getD (p ++ s) j [] ≡ getD (q ++ s) (length q + k) [] = ap (λ (i : ℕ). getD (p ++ s) i []) z ∙ (getD-append-add p s k [] ∙ sym (getD-append-add q s k [])) in
         rw (lt-ltb (length q + k) (length (q ++ s)) (omega (arith, length-append p s, length-append q s)))
-        (subst (λ (n : Name). T (before n x)) u y)
+        (subst (λ (n : Name). T (precedes n x)) u y)
     go m e (below y) =
         rw (le-ltb (length q + k) (length (q ++ s)) (omega (arith, length-append p s, length-append q s)), eq-eqb (length q + k) (length (q ++ s)) (omega (arith, length-append p s, length-append q s)), y) tt
 

@@ -16,7 +16,7 @@ use Rattle.layout.specs.Rows.{Row, treeFrom}
 use Rattle.layout.specs.Lawful.{rowsOk}
 use Rattle.layout.proofs.Walks.{look-at}
 use Rattle.layout.proofs.Roots.{all-named, all-once}
-use Rattle.layout.specs.Parts.{pathAfter, Gap}
+use Rattle.layout.specs.Parts.{pathAfter, Between}
 use Rattle.layout.proofs.Edited.Parted.{tree-both}
 use Rattle.layout.proofs.Edited.Inserting.{tree-new, rows-new}
 
@@ -33,7 +33,7 @@ apart-none [] t p n a = a .0
 apart-none (e ∷ s) t p n a =
     look-past e (s ++ t) p (λ z. middle-found s t p n (ap (look (s ++ ((p, n) ∷ t))) (sym z) ∙ a .0)) ∙ apart-none s t p n (a .1)
 
-module _ (kind : ℕ → ℕ) (n : ℕ) (a b : List Row) (q : Path) (x : Name) (g : Gap kind a b q x) (f : ℕ → Node) (t : T (rowsOk kind n (a ++ b))) where
+module _ (kind : ℕ → ℕ) (n : ℕ) (a b : List Row) (q : Path) (x : Name) (g : Between kind a b q x) (f : ℕ → Node) (t : T (rowsOk kind n (a ++ b))) where
   proper-none : (k : ℕ) → k < n → (a ≡ [] → ⊥) → T (nameOk x) → look (treeFrom f [] (a ++ b)) (q ++ (x ∷ [])) ≡ none
   proper-none k l z o =
       ap (λ (u : Entries). look u (q ++ (x ∷ []))) (tree-both f [] a b)

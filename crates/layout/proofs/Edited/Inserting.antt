@@ -13,14 +13,14 @@ use lib.Seq.{take-append-le, take-take, take-length, getD-take}
 use borrow.Author.Tests.{lt-ltb}
 use Rattle.path.specs.Path.{Name}
 use Rattle.path.proofs.Laws.{and-left, and-right, and-both}
-use Rattle.model.specs.Tree.{Path, Node, Entries, before, look}
+use Rattle.model.specs.Tree.{Path, Node, Entries, precedes, look}
 use Rattle.model.specs.Rules.{nameOk}
 use Rattle.model.specs.Prog.{isNil}
 use Rattle.model.proofs.Entries.{clash, is-true, of-true, or, path-dec, look-here, look-past, both-look}
 use Rattle.layout.specs.Rows.{Row, pathBy, pathOf, treeFrom}
 use Rattle.layout.specs.Lawful.{follows, entryOk, walkOk, rootOk, rowsOk}
 use Rattle.layout.proofs.Rising.{Follows, aside, below, follows-by, by-follows}
-use Rattle.layout.specs.Parts.{pathAfter, dirAfter, Behind, Gap}
+use Rattle.layout.specs.Parts.{pathAfter, dirAfter, Behind, Between}
 use Rattle.layout.proofs.Edited.Parted.{tree-both, walk-both, SameStart, MayStand, tree-start, walk-start}
 
 -- ---- the path of the new entry
@@ -33,7 +33,7 @@ module _ (q e : Path) (keeps : take (length q) e ≡ q) where
   stand-by : (d : Bool) (k : ℕ) (x : Name) → Follows q false x k → T (follows e d k x)
   stand-by d n x (aside k h t) =
       let u : getD q k [] ≡ getD e k [] = ap (λ (o : Path). getD o k []) (sym keeps) ∙ getD-take (length q) e k [] h in
-      by-follows e d (suc k) x (aside k (omega (arith, h, long)) (subst (λ (m : Name). T (before m x)) u t))
+      by-follows e d (suc k) x (aside k (omega (arith, h, long)) (subst (λ (m : Name). T (precedes m x)) u t))
   stand-by d n x (below z) = absurd (false≢true z)
 
   start-by : (k : ℕ) (x : Name) → Follows q false x k → pathBy k q x ≡ pathBy k e x
@@ -59,7 +59,7 @@ pub none-left : (o u : Option Node) → or o u ≡ none → o ≡ none
 none-left none u e = refl
 none-left (some y) u e = clash (some y) y e refl
 
-module _ (kind : ℕ → ℕ) (a b : List Row) (q : Path) (x : Name) (g : Gap kind a b q x) where
+module _ (kind : ℕ → ℕ) (a b : List Row) (q : Path) (x : Name) (g : Between kind a b q x) where
   pub new-length : length (q ++ (x ∷ [])) ≡ suc (length q)
   new-length = length-append q (x ∷ []) ∙ omega arith
 

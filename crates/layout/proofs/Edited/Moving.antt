@@ -12,12 +12,12 @@ use lib.Seq.{take-length}
 use borrow.Author.Tests.{lt-ltb}
 use Rattle.path.specs.Path.{Name}
 use Rattle.path.proofs.Laws.{and-left, and-right, and-both}
-use Rattle.model.specs.Tree.{Path, Node, Entries, before, look, behind, graft}
+use Rattle.model.specs.Tree.{Path, Node, Entries, precedes, look, behind, graft}
 use Rattle.model.specs.Rules.{nameOk}
 use Rattle.model.proofs.Entries.{of-true, or, both-look, graft-in, graft-out}
 use Rattle.layout.specs.Rows.{Row, pathBy, treeFrom}
 use Rattle.layout.specs.Lawful.{follows, entryOk, walkOk, rootOk, rowsOk}
-use Rattle.layout.specs.Parts.{pathAfter, dirAfter, Behind, Gap, Deeper}
+use Rattle.layout.specs.Parts.{pathAfter, dirAfter, Behind, Between, Deeper}
 use Rattle.layout.proofs.Edited.Parted.{tree-both, walk-both, SameStart, tree-start, walk-start}
 use Rattle.layout.proofs.Edited.Inserting.{stand-below, start-below, root-is, same-start, new-path, none-left}
 use Rattle.layout.proofs.Edited.Removing.{below-keeps}
@@ -26,7 +26,7 @@ use Rattle.layout.proofs.Edited.Removing.{below-keeps}
 
 -- ---- the block between the parts
 
-module _ (kind : ℕ → ℕ) (n : ℕ) (a b : List Row) (q : Path) (x : Name) (g : Gap kind a b q x) (s : ℕ) (c : List Row) where
+module _ (kind : ℕ → ℕ) (n : ℕ) (a b : List Row) (q : Path) (x : Name) (g : Between kind a b q x) (s : ℕ) (c : List Row) where
   -- the entry, and its path
   abbrev row : Row
   row = record { depth = suc (length q); name = x; slot = s }

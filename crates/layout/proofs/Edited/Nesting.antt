@@ -18,7 +18,7 @@ use Rattle.model.specs.Rules.{nameOk}
 use Rattle.model.proofs.Entries.{look-cons, behind-self, behind-is, under-look, give-in, give-out, cut-in, put-past, less-none}
 use Rattle.layout.specs.Rows.{Row, pathOf, treeFrom}
 use Rattle.layout.specs.Lawful.{follows, walkOk, rowsOk, uses}
-use Rattle.layout.specs.Parts.{pathAfter, dirAfter, Behind, Gap, Deeper, NotDeeper, deepen}
+use Rattle.layout.specs.Parts.{pathAfter, dirAfter, Behind, Between, Deeper, NotDeeper, deepen}
 use Rattle.layout.proofs.Roots.{root-of}
 use Rattle.layout.proofs.Walks.{first-ok}
 use Rattle.layout.proofs.Edited.Blocked.{at-path, at-length, first-next}
@@ -101,7 +101,7 @@ module _ (kind : ℕ → ℕ) (n : ℕ) (root : Row) (a : List Row) (row : Row) 
   slot-low = ltb→lt (row .slot) n (and-left (ltb (row .slot) n) _ (first-ok kind n up isDir row (x ++ b) block))
 
   -- its place once it is out
-  gap : Gap kind (root ∷ a) b inside (row .name)
+  gap : Between kind (root ∷ a) b inside (row .name)
   gap =
       record {
         within = ap (λ (k : ℕ). take k up) inside-long;
@@ -138,7 +138,7 @@ module _ (kind : ℕ → ℕ) (n : ℕ) (root : Row) (a : List Row) (row : Row) 
     first-place : T (follows at true (suc (length at)) y)
     first-place = rw (le-ltb (length at) (length at) (omega arith), eq-eqb (length at) (length at) refl) tt
 
-    first-gap : Gap kind front b at y
+    first-gap : Between kind front b at y
     first-gap =
         record {
           within = ap (take (length at)) end ∙ take-length at;

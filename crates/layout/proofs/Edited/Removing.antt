@@ -13,7 +13,7 @@ use lib.ListN.{length, take, drop, getD, take-append-drop}
 use lib.Seq.{take-append-le, length-take-le, take-take}
 use Rattle.path.specs.Path.{Name, same}
 use Rattle.path.proofs.Laws.{same-equal, and-right}
-use Rattle.model.specs.Tree.{Path, before, behind, behindBy}
+use Rattle.model.specs.Tree.{Path, precedes, behind, behindBy}
 use Rattle.model.specs.Rules.{nameOk}
 use Rattle.layout.specs.Rows.{Row, pathBy, pathOf}
 use Rattle.layout.specs.Lawful.{follows, walkOk}
@@ -62,15 +62,15 @@ module _ (kind : ℕ → ℕ) (n : ℕ) where
 abbrev pub Beyond : Path → Path → Type 0
 Beyond [] q = ⊥
 Beyond (x ∷ p) [] = ⊥
-Beyond (x ∷ p) (y ∷ q) = T (before x y) ⊎ ((x ≡ y) × Beyond p q)
+Beyond (x ∷ p) (y ∷ q) = T (precedes x y) ⊎ ((x ≡ y) × Beyond p q)
 
 pub beyond-rises : (p q r : Path) → Beyond p q → Rises q r → Beyond p r
 beyond-rises [] q r h k = absurd h
 beyond-rises (x ∷ p) [] r h k = absurd h
 beyond-rises (x ∷ p) (y ∷ q) [] h k = absurd k
 beyond-rises (x ∷ p) (y ∷ q) (z ∷ r) (inl t) (inl u) = inl (before-both x y z t u)
-beyond-rises (x ∷ p) (y ∷ q) (z ∷ r) (inl t) (inr e) = inl (subst (λ (m : Name). T (before x m)) (e .0) t)
-beyond-rises (x ∷ p) (y ∷ q) (z ∷ r) (inr e) (inl u) = inl (subst (λ (m : Name). T (before m z)) (sym (e .0)) u)
+beyond-rises (x ∷ p) (y ∷ q) (z ∷ r) (inl t) (inr e) = inl (subst (λ (m : Name). T (precedes x m)) (e .0) t)
+beyond-rises (x ∷ p) (y ∷ q) (z ∷ r) (inr e) (inl u) = inl (subst (λ (m : Name). T (precedes m z)) (sym (e .0)) u)
 beyond-rises (x ∷ p) (y ∷ q) (z ∷ r) (inr e) (inr f) = inr (e .0 ∙ f .0, beyond-rises p q r (e .1) (f .1))
 
 -- a path that is greater at one of its names does not begin with the first
@@ -78,9 +78,9 @@ behind-none : (b : Bool) → behindBy b none ≡ none
 behind-none true = refl
 behind-none false = refl
 
-not-same : (x y : Name) → T (before x y) ⊎ T (before y x) → same x y ≡ false
-not-same x y (inl t) = is-false (same x y) (λ e. before-self y (subst (λ (m : Name). T (before m y)) (same-equal x y e) t))
-not-same x y (inr t) = is-false (same x y) (λ e. before-self y (subst (λ (m : Name). T (before y m)) (same-equal x y e) t))
+not-same : (x y : Name) → T (precedes x y) ⊎ T (precedes y x) → same x y ≡ false
+not-same x y (inl t) = is-false (same x y) (λ e. before-self y (subst (λ (m : Name). T (precedes m y)) (same-equal x y e) t))
+not-same x y (inr t) = is-false (same x y) (λ e. before-self y (subst (λ (m : Name). T (precedes y m)) (same-equal x y e) t))
 
 pub beyond-behind : (p q : Path) → Beyond p q → behind p q ≡ none
 unfolding behind
@@ -99,7 +99,7 @@ rises-behind (x ∷ p) (y ∷ q) (inl t) = ap (λ (b : Bool). behindBy b (behind
 rises-behind (x ∷ p) (y ∷ q) (inr e) = ap (behindBy (same x y)) (rises-behind p q (e .1)) ∙ behind-none (same x y)
 
 -- greater at the k-th
-pub beyond-aside : (k : ℕ) (p : Path) (x : Name) → k < length p → T (before (getD p k []) x) → Beyond p (take k p ++ (x ∷ []))
+pub beyond-aside : (k : ℕ) (p : Path) (x : Name) → k < length p → T (precedes (getD p k []) x) → Beyond p (take k p ++ (x ∷ []))
 beyond-aside k [] x h t = absurd (omega arith)
 beyond-aside zero (y ∷ p) x h t = inl t
 beyond-aside (suc k) (y ∷ p) x h t = inr (refl, beyond-aside k p x (omega arith) t)

@@ -9,7 +9,7 @@ use mathlib.Core.Path.{_≡_, refl, sym, ap, _∙_}
 use Prim.Native.Nat.{ℕ, suc, _+_}
 use native.Mathlib.Omega.{arith}
 use lib.ListN.{length}
-use Rattle.model.specs.Tree.{Path, Node, Entries, before, look, nameLength, targetLength, namesAndTargets}
+use Rattle.model.specs.Tree.{Path, Node, Entries, precedes, look, nameLength, targetLength, namesAndTargets}
 use Rattle.model.proofs.Entries.{clash, of-true, name-dec, path-dec, look-here, look-past, look-cons, Apart}
 use Rattle.model.proofs.Ordering.{one-way}
 use Rattle.layout.proofs.Climbing.{Climbs, Ascends}
@@ -28,13 +28,13 @@ order [] (y ∷ q) = less tt
 order (x ∷ p) [] = more tt
 order (x ∷ p) (y ∷ q) = go (name-dec x y) (order p q)
   where
-    aside : (a : Bool) → before x y ≡ a → (b : Bool) → before y x ≡ b → a ≡ not b → Order (x ∷ p) (y ∷ q)
+    aside : (a : Bool) → precedes x y ≡ a → (b : Bool) → precedes y x ≡ b → a ≡ not b → Order (x ∷ p) (y ∷ q)
     aside true e b g h = less (inl (of-true e))
     aside false e true g h = more (inl (of-true g))
     aside false e false g h = absurd (false≢true h)
 
     go : Dec (x ≡ y) → Order p q → Order (x ∷ p) (y ∷ q)
-    go (no n) ih = aside (before x y) refl (before y x) refl (one-way x y n)
+    go (no n) ih = aside (precedes x y) refl (precedes y x) refl (one-way x y n)
     go (yes e) (less r) = less (inr (e, r))
     go (yes e) (equal r) = equal (let z : x ∷ p ≡ y ∷ q = cc in z)
     go (yes e) (more r) = more (inr (sym e, r))

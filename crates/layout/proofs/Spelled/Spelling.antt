@@ -12,7 +12,7 @@ use lib.ListN.{length, take, getD, length-append}
 use lib.Seq.{getD-append-seam, take-append-seam, take-length}
 use borrow.Author.Tests.{lt-ltb, le-ltb, eq-eqb}
 use Rattle.path.specs.Path.{Name, lastName}
-use Rattle.model.specs.Tree.{Path, before}
+use Rattle.model.specs.Tree.{Path, precedes}
 use Rattle.model.proofs.Sound.Paths.{whole}
 use Rattle.layout.specs.Rows.{pathBy}
 use Rattle.layout.specs.Lawful.{follows}
@@ -23,7 +23,7 @@ use Rattle.layout.proofs.Rising.{Rises, before-self, before-both}
 -- the second path is the first, or goes on behind it with a name before x
 pub data Goes (P : Path) (x : Name) (Q : Path) : Type 0 where
   same : Q ≡ P → Goes P x Q
-  past : (y : Name) (R : Path) → Q ≡ P ++ (y ∷ R) → T (before y x) → Goes P x Q
+  past : (y : Name) (R : Path) → Q ≡ P ++ (y ∷ R) → T (precedes y x) → Goes P x Q
 
 -- nothing is before the root
 pub no-rise : (p : Path) → Rises p [] → ⊥
@@ -48,13 +48,13 @@ goes (a ∷ P) (b ∷ Q) x h r = go h r (goes P Q x)
     cons-equal : a ∷ P ≡ b ∷ Q → (a ≡ b) × (P ≡ Q)
     cons-equal e = (cc, cc)
 
-    go : (a ∷ P ≡ b ∷ Q) ⊎ (T (before a b) ⊎ ((a ≡ b) × Rises P Q)) → T (before b a) ⊎ ((b ≡ a) × Rises Q (P ++ (x ∷ [])))
+    go : (a ∷ P ≡ b ∷ Q) ⊎ (T (precedes a b) ⊎ ((a ≡ b) × Rises P Q)) → T (precedes b a) ⊎ ((b ≡ a) × Rises Q (P ++ (x ∷ [])))
         → ((P ≡ Q) ⊎ Rises P Q → Rises Q (P ++ (x ∷ [])) → Goes P x Q) → Goes (a ∷ P) x (b ∷ Q)
-    go (inl e) (inl t) ih = absurd (before-self a (subst (λ (c : Name). T (before c a)) (sym (cons-equal e .0)) t))
+    go (inl e) (inl t) ih = absurd (before-self a (subst (λ (c : Name). T (precedes c a)) (sym (cons-equal e .0)) t))
     go (inl e) (inr u) ih = on (cons-equal e .0) (inl (cons-equal e .1)) (u .1) ih
     go (inr (inl t)) (inl u) ih = absurd (before-self a (before-both a b a t u))
-    go (inr (inl t)) (inr u) ih = absurd (before-self a (subst (λ (c : Name). T (before a c)) (u .0) t))
-    go (inr (inr k)) (inl u) ih = absurd (before-self a (subst (λ (c : Name). T (before c a)) (sym (k .0)) u))
+    go (inr (inl t)) (inr u) ih = absurd (before-self a (subst (λ (c : Name). T (precedes a c)) (u .0) t))
+    go (inr (inr k)) (inl u) ih = absurd (before-self a (subst (λ (c : Name). T (precedes c a)) (sym (k .0)) u))
     go (inr (inr k)) (inr u) ih = on (k .0) (inr (k .1)) (u .1) ih
 
 -- ---- the row of an entry

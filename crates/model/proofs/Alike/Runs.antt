@@ -12,7 +12,7 @@ use lib.Dec.{eqb, leb}
 use native.Mathlib.Decide.{ℕ-discrete}
 use borrow.Author.Tests.{eq-eqb, ne-eqb}
 use Rattle.path.specs.Path.{Name}
-use Rattle.model.specs.Tree.{Path, Node, dir, file, link, Entries, look, orElse, samePath, under, before, insertBy, insert, inOrder, nameLength, targetLength, contentsLength, linksIn}
+use Rattle.model.specs.Tree.{Path, Node, dir, file, link, Entries, look, orElse, samePath, under, precedes, insertBy, insert, inOrder, nameLength, targetLength, contentsLength, linksIn}
 use Rattle.model.specs.Prog.{World, Stat, Ask, kind?, stat?, bytes?, target?, list?, bare?, open?, held?, here?, mask?, Edit, make, create, symlink, change, remove, take, give, opens, close, seek, changeHeld, go, umask, apply, answer, statOf, child, children, listing, Prog, ret, stop, ask, edit, Out, done, refused, run}
 use Rattle.model.specs.Operations.{Reply, isSome}
 use Rattle.model.specs.Calls.{State, Call, entriesUsed, bytesUsed, givenTo, screen, program, worldOf, stateOf, edited, accepted, refusal, Outcome, settleBy, settle, decideBy, performWith, perform}
@@ -93,7 +93,7 @@ children-in u ((p, n) ∷ t) = go p refl (statOf u n) (each-map (In t) (In ((p, 
 insert-each : (P : Name → Type 0) (e : Name × Stat) (l : List (Name × Stat)) → P (e .0) → Each P l → Each P (insert e l)
 unfolding insert
 insert-each P e [] x h = (x, tt)
-insert-each P e (f ∷ l) x h = go (before (e .0) (f .0)) (insert-each P e l x (h .1))
+insert-each P e (f ∷ l) x h = go (precedes (e .0) (f .0)) (insert-each P e l x (h .1))
   where
     go : (b : Bool) → Each P (insert e l) → Each P (insertBy b e f l (insert e l))
     go true ih = (x, h)

@@ -8,7 +8,7 @@ use Prim.Native.Nat.{ℕ}
 use native.Mathlib.Omega.{arith}
 use Rattle.text.specs.Utf8.{Bytes}
 use Rattle.path.specs.Path.{Name}
-use Rattle.model.specs.Tree.{Path, File, Node, Entries, Files, Open, look, fileOf, openOf, under, before, insertBy, insert, inOrder}
+use Rattle.model.specs.Tree.{Path, File, Node, Entries, Files, Open, look, fileOf, openOf, under, precedes, insertBy, insert, inOrder}
 use Rattle.model.specs.Prog.{World, Stat, Position, Ask, kind?, stat?, bytes?, target?, list?, bare?, open?, held?, here?, mask?, answer, onSome, nodeKind, statOf, bytesOf, targetOf, child, children, isNil, listing}
 use Rattle.model.specs.Operations.{isSome}
 use Rattle.model.specs.Fuller.{misses, lacksOne, hasMore, exceptsAsk}
@@ -71,7 +71,7 @@ children-names u ((p, n) ∷ t) a = go p refl (statOf u n) (children-names u t (
 place-named : {A : Type 0} (e : Name × A) (l : List (Name × A)) → named l (e .0) ≡ none → (x : Name) → named (insert e l) x ≡ named (e ∷ l) x
 unfolding insert
 place-named e [] n x = refl
-place-named e (f ∷ l) n x = go (before (e .0) (f .0)) (place-named e l) n
+place-named e (f ∷ l) n x = go (precedes (e .0) (f .0)) (place-named e l) n
   where
     go : (b : Bool) → (named l (e .0) ≡ none → (y : Name) → named (insert e l) y ≡ named (e ∷ l) y) → named (f ∷ l) (e .0) ≡ none
         → named (insertBy b e f l (insert e l)) x ≡ named (e ∷ f ∷ l) x

@@ -5,7 +5,7 @@ use native.Mathlib.Omega.{arith}
 use borrow.Author.Tests.{eq-eqb, ne-eqb}
 use lib.ListN.{getD}
 use lib.Seq.{set-getD}
-use Rattle.blocks.specs.Gap.{moved}
+use Rattle.blocks.specs.Moved.{moved}
 use Rattle.layout.specs.Fields.{lenOf}
 use borrow.Author.Needs.{needs}
 use Rattle.slots.proofs.sweep_step.Statement.{statement}
