@@ -3,3 +3,4 @@ pub mod Reached
 pub mod Rooted
 pub mod Passing
 pub mod Chains
+pub mod Leading

@@ -1,2 +1,3 @@
 pub mod Meets
 pub mod Lookups
+pub mod Leads

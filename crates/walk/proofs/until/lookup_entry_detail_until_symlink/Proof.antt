@@ -20,12 +20,6 @@ use Rattle.walk.proofs.Reached.{Reached, kind-dir, kind-is, no-root, at
 use Rattle.walk.proofs.Rooted.{some-asked, never, root-there}
 use Rattle.walk.proofs.until.lookup_entry_detail_until_symlink.Statement.{statement}
 use Rattle.walk.proofs.until.lookup_entry_detail_until_symlink.Tie as tie
-use Rattle.walk.proofs.until.lookup_entry_detail_until_symlink.Reads as reads
-use Rattle.walk.proofs.until.lookup_entry_detail_until_symlink.Lts as lts
-use Rattle.path.proofs.pieces.piece_end.Reads as piece-end-reads
-use Rattle.store.proofs.child.Reads as child-reads
-use Rattle.store.proofs.kind.Reads as kind-reads
-use Rattle.store.proofs.root.Reads as root-reads
 
 abbrev Inv-loop : tie.InvT-loop
 Inv-loop words records heads bytes path hidden spot₀ dir₀ e₀ spot dir e = (st : Store) (s : State) (w : World) → Shows (lent words records heads (st .times) (st .paths) bytes) s
@@ -34,7 +28,6 @@ Inv-loop words records heads bytes path hidden spot₀ dir₀ e₀ spot dir e = 
 abbrev μ-loop : tie.MeasureT-loop
 μ-loop words records heads bytes path hidden spot₀ dir₀ e₀ spot dir e = length path - e
 
--- src/until.rt:25:26
 -- a store with the slices
 abbrev store : tie.Start Inv-loop μ-loop → Store → Store
 store b = let a = b .args in withWords (a .words) ∘ withRecords (a .records) ∘ withHeads (a .heads) ∘ withBytes (a .bytes)
@@ -55,51 +48,42 @@ is-dir c st s w x y =
 root-requires : tie.Need-root-requires Inv-loop μ-loop
 root-requires c κs = search needs
 
--- src/until.rt:26:21
 enum-known-s : tie.Need-enum-known-s Inv-loop μ-loop
 enum-known-s c = search needs
 
--- src/until.rt:27:23
 enum-known-g : tie.Need-enum-known-g Inv-loop μ-loop
 enum-known-g c = search needs
 
--- src/until.rt:28:13
 returns : tie.Need-returns Inv-loop μ-loop
 returns c = λ st s x w y.
     let b = c .before .before .before .before .before .before .before .before .before in let a = b .args in let u = store b st in
     let m = subst (RootIs u s) (c .before .g .given .1) (c .before .before .before .root .ensures u s x) in
     no-root u s w (a .hidden) (a .path .now) _ (m .1) (never u s (a .hidden) w y (m .0) (m .1))
 
--- src/until.rt:33:5
 loop-holds : tie.Need-loop-holds Inv-loop μ-loop
 loop-holds c = λ st s w x y.
     let b = c .before .before .before .before .before .before .before .before .before in let a = b .args in let u = store b st in
     at-root u s w (a .hidden) (a .path .now) _ (b .pre .1)
     (root-there u s x _ (subst (RootIs u s) (c .before .s .given .1) (c .before .before .before .root .ensures u s x)) (a .hidden) w (b .pre .2) y)
 
--- src/until.rt:34:13
 kind-requires : tie.Need-kind-requires Inv-loop μ-loop
 kind-requires c κs = search needs
 
--- src/until.rt:36:13
 returns-2 : tie.Need-returns-2 Inv-loop μ-loop
 returns-2 c = λ st s x w y.
     let b = c .before .before .before .before .before .before .before .before .before .before .before .before .before in let a = b .args in let u = store b st in let l = c .before .before .before .loop in let k = c .before .kind in let r = l .inv st s w x y in
     at-file u s w (a .hidden) (a .path .now) (l .spot) (l .dir) (l .e) r (c .before .before .loop-test .taken)
     (kind-is u s w (a .hidden) (a .path .now) (l .spot) (l .dir) (l .e) r (k .result) (k .ensures .1 u s x (r .here) (r .there .at)) aFile (ap kindFrom (c .if1 .taken)))
 
--- src/until.rt:39:13
 returns-3 : tie.Need-returns-3 Inv-loop μ-loop
 returns-3 c = λ st s x w y.
     let b = c .before .before .before .before .before .before .before .before .before .before .before .before .before .before in let a = b .args in let u = store b st in let l = c .before .before .before .before .loop in let k = c .before .before .kind in let r = l .inv st s w x y in
     at-link u s w (a .hidden) (a .path .now) (l .spot) (l .dir) (l .e) r (c .before .before .before .loop-test .taken)
     (kind-is u s w (a .hidden) (a .path .now) (l .spot) (l .dir) (l .e) r (k .result) (k .ensures .1 u s x (r .here) (r .there .at)) aLink (ap kindFrom (c .if2 .taken)))
 
--- src/until.rt:41:17
 add-a : tie.Need-add-a Inv-loop μ-loop
 add-a c = omega (arith, c .before .before .before .loop-test .taken)
 
--- src/until.rt:42:13
 piece-end-requires : tie.Need-piece-end-requires Inv-loop μ-loop
 piece-end-requires c κs = let b = c .before .before .before .before .before .before .before .before .before .before .before .before .before .before in let p = b .pre .0 in let a = b .args in let l = c .before .before .before .before .loop in let t = c .before .before .before .loop-test .taken in (
   omega (arith, t),
@@ -107,31 +91,24 @@ piece-end-requires c κs = let b = c .before .before .before .before .before .be
       ∙ at-slash (store b (p .0)) (p .1) (some-asked (store b (p .0)) (p .1) (a .hidden) .0) (a .hidden) (a .path .now) (l .spot) (l .dir) (l .e) (first (c .before .before .before .before)) t),
 )
 
--- src/until.rt:43:57
 sub-child : tie.Need-sub-child Inv-loop μ-loop
 sub-child c = omega (arith, c .piece-end .ensures .piece .fits)
 
--- src/until.rt:43:57
 part-child-start : tie.Need-part-child-start Inv-loop μ-loop
 part-child-start c = omega (arith, c .piece-end .ensures .piece .fits)
 
--- src/until.rt:43:57
 part-child-end : tie.Need-part-child-end Inv-loop μ-loop
 part-child-end c = omega (arith, c .piece-end .ensures .fits)
 
--- src/until.rt:43:15
 child-requires : tie.Need-child-requires Inv-loop μ-loop
 child-requires c κs = let b = c .before .before .before .before .before .before .before .before .before .before .before .before .before .before .before .before in let p = b .pre .0 in let r = first (c .before .before .before .before .before .before) in (store b (p .0), p .1, r .here, p .2, r .there .at)
 
--- src/until.rt:44:25
 enum-known-s-2 : tie.Need-enum-known-s-2 Inv-loop μ-loop
 enum-known-s-2 c = search needs
 
--- src/until.rt:47:27
 enum-known-g-2 : tie.Need-enum-known-g-2 Inv-loop μ-loop
 enum-known-g-2 c = search needs
 
--- src/until.rt:48:17
 -- what the child's answer says
 looked : (c : tie.After-child Inv-loop μ-loop) → let b = c .before .before .before .before .before .before .before .before .before .before .before .before .before .before .before .before .before in let a = b .args in let l = c .before .before .before .before .before .before .before .loop in
     (st : Store) (s : State) (w : World) (x : Shows (store b st) s) (y : Asked (store b st) s (a .hidden) w)
@@ -145,29 +122,24 @@ returns-4 c = λ st s x w y.
     let f = subst (LookIs u s w (a .hidden) (r .here) (part (l .e + 1) (q .result) (a .path .now))) (c .before .g2 .given .1) (looked (c .before .before .before) st s w x y) in
     at-gone u s w (a .hidden) (a .path .now) (l .spot) (l .dir) (l .e) r (c .before .before .before .before .before .before .before .before .before .loop-test .taken) (q .result) (q .ensures) (is-dir (c .before .before .before .before .before .before) st s w x y) (c .before .g2 .given .0 .0) (f .0) (f .1)
 
--- src/until.rt:33:5
 loop-less : tie.Need-loop-less Inv-loop μ-loop
 loop-less c = omega (arith, c .before .before .before .before .before .piece-end .ensures .piece .fits, c .before .before .before .before .before .piece-end .ensures .fits, c .before .before .before .before .before .before .before .before .before .loop-test .taken)
 
--- src/until.rt:33:5
 loop-again : tie.Need-loop-again Inv-loop μ-loop
 loop-again c = λ st s w x y.
     let b = c .before .before .before .before .before .before .before .before .before .before .before .before .before .before .before .before .before .before .before .before in let a = b .args in let u = store b st in let l = c .before .before .before .before .before .before .before .before .before .before .loop in let q = c .before .before .before .before .before .piece-end in let r = l .inv st s w x y in
     let f = subst (LookIs u s w (a .hidden) (r .here) (part (l .e + 1) (q .result) (a .path .now))) (c .before .s2 .given .1) (looked (c .before .before .before) st s w x y) in
     at-next u s w (a .hidden) (a .path .now) (l .spot) (l .dir) (l .e) r (c .before .before .before .before .before .before .before .before .before .loop-test .taken) (q .result) (q .ensures) (is-dir (c .before .before .before .before .before .before) st s w x y) (c .before .s2 .given .0 .0) f
 
--- src/until.rt:54:9
 kind-requires-2 : tie.Need-kind-requires-2 Inv-loop μ-loop
 kind-requires-2 c κs = search needs
 
--- src/until.rt:56:9
 returns-5 : tie.Need-returns-5 Inv-loop μ-loop
 returns-5 c = λ st s x w y.
     let b = c .before .before .before .before .before .before .before .before .before .before .before .before .before in let a = b .args in let u = store b st in let l = c .before .before .before .loop in let k = c .before .kind2 in let r = l .inv st s w x y in
     at-last-link u s w (a .hidden) (a .path .now) (l .spot) (l .dir) (l .e) r (omega (arith, c .before .before .loop-test .left))
     (kind-is u s w (a .hidden) (a .path .now) (l .spot) (l .dir) (l .e) r (k .result) (k .ensures .1 u s x (r .here) (r .there .at)) aLink (ap kindFrom (c .if3 .taken)))
 
--- src/until.rt:14:1
 returns-6 : tie.Need-returns-6 Inv-loop μ-loop
 returns-6 c = λ st s x w y.
     let b = c .before .before .before .before .before .before .before .before .before .before .before .before .before in let a = b .args in let u = store b st in let l = c .before .before .before .loop in let k = c .before .kind2 in let r = l .inv st s w x y in
