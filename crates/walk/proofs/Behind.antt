@@ -34,7 +34,7 @@ use Rattle.walk.specs.Meets.{LinkAt}
 use Rattle.walk.specs.Lookups.{behind, Kept, Follows}
 
 -- what was formed is the model's answer to whether the path fits, and is a path
-formed-run : (w : World) (q : Path) (before after : Bytes) (r : Formed) → FormedIs q before after r
+pub formed-run : (w : World) (q : Path) (before after : Bytes) (r : Formed) → FormedIs q before after r
     → (allowed (pathFits q) pathTooLong (done q w) ≡ behind w after r) × Kept after r
 formed-run w q before after (Text n) f = (
   ap (λ (b : Bool). allowed b pathTooLong (done q w)) (is-true (pathFits q) (f .fits)) ∙ ap (λ (p : Path). done p w) (sym (f .path)),

@@ -1,0 +1,4 @@
+pub mod Lending
+pub mod Doing
+pub mod Testing
+pub mod Beginning
