@@ -1,3 +1,4 @@
-// The calls of the static library. Each is its shell, the tests and the operation over the parts of the slices that the limits ask, and then
-// both working buffers are cleared.
+// The calls of the static library.
 pub mod look;
+pub mod number;
+pub mod state;

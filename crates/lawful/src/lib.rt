@@ -14,7 +14,7 @@ use layout::WORD_COUNT;
 
 pub mod cells;
 pub mod held;
-mod sizes;
+pub mod sizes;
 
 // Whether slices obey the rules. `recs` has the records of the entries and no more, `heads` the words of the slots so far.
 fn parts_ok(words: &[u64], recs: &[u64], heads: &[u64], paths: &[u8], bytes: &[u8]) -> bool

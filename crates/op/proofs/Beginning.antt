@@ -76,10 +76,10 @@ as-named s path out o b e h k = subst (λ (x : Sort). Stops s x path out b) (sym
 -- ---- the tests
 
 -- an empty text passes
-empty-text : text [] ≡ true
+pub empty-text : text [] ≡ true
 empty-text = is-true (text []) text-none
 
-empty-lengths : lengthsOk [] ≡ true
+pub empty-lengths : lengthsOk [] ≡ true
 unfolding lengthsOk allShort pieces
 empty-lengths = refl
 

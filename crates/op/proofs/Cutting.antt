@@ -1,22 +1,25 @@
 -- The parts of the slices that the limits ask. Slices that pass show, by these parts, the state that is read back of them; and slices whose
 -- parts come back changed, with the rest as it was, are read back as what the parts show.
 -- Assumes nothing.
-use mathlib.Core.List.{List, _++_}
+use mathlib.Core.List.{List, [], _++_}
 use mathlib.Core.Path.{_≡_, refl, sym, ap, _∙_, subst}
-use Prim.Native.Nat.{ℕ, _+_, _*_, _≤_}
+use Prim.Native.Nat.{ℕ, _+_, _*_, _≤_, _<_, _^_}
 use native.Mathlib.Omega.{arith}
-use lib.IntN.{ℤ}
+use lib.Dec.{T}
+use lib.IntN.{ℤ, pos}
 use lib.ListN.{length, take, drop, getD, length-append, length-drop}
 use lib.Seq.{getD-take, take-take, length-take-le, take-append-seam, drop-append-seam}
 use Rattle.text.specs.Utf8.{Bytes}
 use Rattle.model.proofs.Alike.States.{alike-refl}
+use Rattle.model.specs.Rules.{timeOk}
 use Rattle.model.specs.Calls.States.{State}
 use Rattle.model.specs.Alike.{Alike}
 use Rattle.layout.specs.Numbers.{wordCount, mostAt, roomAt, extentAt, pathsBytes}
 use Rattle.layout.specs.Store.{Store, lent, most, room, extent, slotsFor, state, core, spare}
-use Rattle.layout.specs.Lawful.{Lawful, Long, Passes}
+use Rattle.layout.specs.Lawful.{Lawful, Long, Passes, Sized}
 use Rattle.layout.specs.Answers.{readBack}
 use Rattle.layout.proofs.Edited.Shapes.{lawful-shape}
+use Rattle.layout.proofs.Sizes.{sized-cut}
 use Rattle.edit_room.specs.Extents.{trim, Roomy}
 use Rattle.store.specs.Shows.{Shows}
 
@@ -105,7 +108,7 @@ module _ (st u after : Store) (p : Passes st) (b : Returned st u after) (l : Law
   pub room-kept : room u ≡ room st
   room-kept = sym (l .exact .bytes) ∙ ap length (sym (b .bytes .front)) ∙ length-take-le (room st) (after .bytes) (omega (arith, b .bytes .long, p .0 .bytes))
 
-  most-now : most after ≡ most st
+  pub most-now : most after ≡ most st
   most-now = word-now mostAt (omega arith) ∙ most-kept
 
   room-now : room after ≡ room st
@@ -135,3 +138,16 @@ module _ (st u after : Store) (p : Passes st) (b : Returned st u after) (l : Law
 
   pub behind-now : spare (most st) (room st) after ≡ spare (most st) (room st) st
   behind-now = same-store (b .words .rest) (b .records .rest) (b .heads .rest) (b .times .rest) (b .paths .rest) (b .bytes .rest)
+
+  -- what the slices hold, where the times are as they were
+  pub sized-kept : after .times ≡ st .times → ((i : ℕ) → getD (after .words) i 0 < 2 ^ 64) → ((i : ℕ) → getD (after .heads) i 0 < 2 ^ 64) → ((i : ℕ) → getD (after .bytes) i 0 < 256)
+      → Sized (core after)
+  unfolding timeOk
+  sized-kept e ws hs bs =
+      let x = sized-cut (lent (after .words) (after .records) (after .heads) [] (after .paths) (after .bytes)) ws hs (λ i. tt) bs in
+      record {
+        words = x .words;
+        heads = x .heads;
+        times = λ i. subst (λ (l : List ℤ). T (timeOk (getD (take (4 * slotsFor (most after)) l) i (pos 0)))) (sym e) (subst (λ (n : ℕ). T (timeOk (getD (take (4 * slotsFor n) (st .times)) i (pos 0)))) (sym most-now) (p .2 .times i));
+        bytes = x .bytes;
+      }

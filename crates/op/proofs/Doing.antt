@@ -18,11 +18,14 @@ use Rattle.model.specs.Operations.Steps.{Reply}
 use Rattle.model.specs.Calls.States.{State, entriesUsed, bytesUsed, worldOf, stateOf}
 use Rattle.model.specs.Calls.Calling.{givenTo, screen}
 use Rattle.model.specs.Calls.Performing.{accepted, refusal, resultNumber, Outcome, outcome, settleBy, settle, decideBy, program, performWith, perform}
+use Rattle.model.specs.Space.{roomFor}
 use Rattle.model.specs.Alike.{Alike}
 use Rattle.model.specs.Shaped.{Shaped}
 use Rattle.model.specs.Buffers.{Outputs, written, outputsAfter}
 use Rattle.model.proofs.Alike.States.{alike-used}
 use Rattle.model.proofs.Demand.Keeping.{kept-all}
+use Rattle.model.proofs.Space.Room.{room-settles, decided-no}
+use Rattle.model.proofs.Space.States.{Uses}
 use Rattle.layout.specs.Store.{Store, state, slotsFor, most, core}
 use Rattle.layout.specs.Lawful.{Lawful, Passes, Sized}
 use Rattle.layout.specs.Answers.{Lent, callOf, readBack, Carried}
@@ -78,6 +81,14 @@ module _ (p : Prog Reply) (s : State) where
   -- done without an edit
   pub does-told : (st : Store) → Shows st s → (a : Reply) → run p (worldOf s) ≡ done a (worldOf s) → (o after : Outputs) → after ≡ written a o → Does p s st o after 0
   does-told st h a e o after w = does-done st a (worldOf s) e (subst (Shows st) (sym (left-alone s (h .shaped))) h) o after w
+
+  -- 15 or 16: it would be done, and there is no room for what it would leave
+  pub does-full : (st : Store) → Shows st s → (o : Outputs) (a : Reply) (v : World) → run p (worldOf s) ≡ done a v → (more grown freed : ℕ) → Uses s (stateOf s v) more 0 grown freed
+      → (r : ℕ) → r ≡ roomFor s more grown freed → (r ≡ 0 → ⊥) → Does p s st o o r
+  does-full st h o a v e more grown freed u r x z =
+      by-outcome st o o r (outcome (refusal r) s)
+      (ap (settle s) e ∙ room-settles s a v grown freed more u ∙ decided-no (roomFor s more grown freed) s (outcome (accepted a) (stateOf s v)) (λ y. z (x ∙ y)) ∙ ap (λ (k : ℕ). outcome (refusal k) s) (sym x))
+      refl refl h
 
 -- ---- the whole call
 

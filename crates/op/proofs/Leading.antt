@@ -2,6 +2,7 @@
 -- Assumes nothing.
 use mathlib.Core.Bool.{Bool, true, false}
 use mathlib.Core.List.{List, [], _∷_}
+use mathlib.Core.Option.{some}
 use mathlib.Core.Path.{_≡_, refl, sym, ap, _∙_, subst}
 use Prim.Native.Nat.{ℕ, _/_, _+_, _≤_, _<_}
 use native.Mathlib.Omega.{arith}
@@ -13,7 +14,7 @@ use Rattle.path.specs.Path.{names}
 use Rattle.path.specs.declared.answer.Formed.{Formed}
 use Rattle.path.specs.declared.answer.Formed.the-variants.{Text, TooLong}
 use Rattle.model.specs.Tree.{Path, dir, file, link, Entries, linksIn}
-use Rattle.model.specs.Prog.{World, Prog, _>>=_, Out, done, refused, run}
+use Rattle.model.specs.Prog.{World, kind?, Prog, _>>=_, Out, done, refused, run}
 use Rattle.model.specs.Operations.Steps as model
 use Rattle.model.specs.Operations.Steps.{Reply, toAbsolute, onPath}
 use Rattle.model.specs.Calls.States.{State, worldOf}
@@ -23,11 +24,12 @@ use Rattle.layout.specs.Numbers.{mostEntries}
 use Rattle.edit_room.specs.Extents.{trim}
 use Rattle.ask_find.specs.declared.Spot.{Spot}
 use Rattle.ask_entry.specs.Reads.{kindFrom}
-use Rattle.store.specs.Shows.{Shows, Stands, Asked, whole}
+use Rattle.store.specs.Shows.{Shows, Stands, Asked, whole, says}
 use Rattle.walk.specs.declared.leads.Led.{Led}
 use Rattle.walk.specs.declared.leads.Led.the-variants as led
 use Rattle.walk.specs.declared.lookup.Looked.{Looked}
 use Rattle.walk.specs.Lookups.{Looks}
+use Rattle.walk.specs.Meets.{Plain}
 use Rattle.walk.specs.Leads.{leadsTo, LedPlaced, Leads}
 use Rattle.op.specs.Testing.{AbsoluteIs}
 use Rattle.op.proofs.Doing.{shown-fits}
@@ -80,12 +82,23 @@ module _ (step : Path → Prog model.There) (st : Store) (s : State) (text out :
   led-refused n e f =
       run-bind (step (names text)) f (worldOf s) ∙ ap (λ (o : Out model.There). then o (λ a u. run (f a) u)) (l .answer ∙ ap (leadsTo (worldOf s) (l .links) out) e)
 
-  pub led-count : (spot : Spot) (k n c : ℕ) → r ≡ led.There spot k n c → length (l .links) ≡ c
-  led-count spot k n c e = subst (LedPlaced st s (worldOf s) (l .links) out) e (l .place) .0 .counted
+  led-placed : (spot : Spot) (k n c : ℕ) → r ≡ led.There spot k n c → LedPlaced st s (worldOf s) (l .links) out (led.There spot k n c)
+  led-placed spot k n c e = subst (LedPlaced st s (worldOf s) (l .links) out) e (l .place)
 
-  -- and where it stands
+  -- how many links led there
+  pub led-count : (spot : Spot) (k n c : ℕ) → r ≡ led.There spot k n c → length (l .links) ≡ c
+  led-count spot k n c e = led-placed spot k n c e .0 .counted
+
+  -- where it stands, and its kind
   pub led-stands : (spot : Spot) (k n c : ℕ) → r ≡ led.There spot k n c → Stands st spot (names (take n out))
-  led-stands spot k n c e = subst (Leads step st s (worldOf s) text out) e l .place .1 .at
+  led-stands spot k n c e = led-placed spot k n c e .1 .at
+
+  pub led-kind : (spot : Spot) (k n c : ℕ) → r ≡ led.There spot k n c → says (kind? (names (take n out))) s ≡ some (kindFrom k)
+  led-kind spot k n c e = led-placed spot k n c e .2
+
+  -- its path in front of the buffer
+  pub led-front : (spot : Spot) (k n c : ℕ) → r ≡ led.There spot k n c → (n ≤ 1024) × Plain (take n out)
+  led-front spot k n c e = let f = led-placed spot k n c e .0 in (f .fits, f .plain)
 
 -- ---- a given path
 

@@ -6,3 +6,6 @@ pub mod Doing
 pub mod Leading
 pub mod Beginning
 pub mod Calling
+pub mod Naming
+pub mod Writing
+pub mod Numbering

@@ -1,1 +1,5 @@
 pub mod Showing
+pub mod Ending
+pub mod Reading
+pub mod Listing
+pub mod Lists

@@ -1,22 +1,22 @@
 -- Metadata by what the lookup found: the record of the entry, where there is room for one.
 -- Assumes nothing.
 use mathlib.Core.Bool.{Bool, true, false}
-use mathlib.Core.List.{List, [], _∷_, _++_}
+use mathlib.Core.List.{List}
 use mathlib.Core.Option.{Option, none, some}
 use mathlib.Core.Path.{_≡_, refl, sym, ap, _∙_, subst}
-use Prim.Native.Nat.{ℕ, _≤_, _<_, _^_}
+use Prim.Native.Nat.{ℕ, _/_, _≤_, _<_, _^_}
 use native.Mathlib.Omega.{arith}
 use lib.Dec.{leb}
 use lib.IntN.{ℤ}
-use lib.ListN.{length, take, drop}
+use lib.ListN.{length, take}
 use Rattle.text.specs.Utf8.{Bytes}
 use Rattle.path.specs.Path.{names}
-use Rattle.model.specs.Tree.{Path, File, Node, dir, file, link, look, fileOf, contentsLength, namesAndTargets}
-use Rattle.model.specs.Prog.{World, aFile, Stat, stat?, statOf, answer, onSome, Prog, ret, asks, _>>=_, _>>_, Out, done, refused, run}
+use Rattle.model.specs.Tree.{Path, File, Node, dir, file, link, look, fileOf, contentsLength}
+use Rattle.model.specs.Prog.{World, aFile, Stat, stat?, statOf, answer, onSome, Prog, ret, asks, _>>=_, _>>_, done, refused, run}
 use Rattle.model.specs.Operations.Steps as model
 use Rattle.model.specs.Operations.Steps.{Reply, statReply, fits}
 use Rattle.model.specs.Operations.Shows.{metadataAt}
-use Rattle.model.specs.Buffers.{statNumbers, rowNumbers, written}
+use Rattle.model.specs.Buffers.{rowNumbers}
 use Rattle.model.specs.Calls.States.{State, worldOf}
 use Rattle.model.proofs.Running.{allowed, need-run}
 use Rattle.model.proofs.Entries.{clash, some-inj}
@@ -28,8 +28,10 @@ use Rattle.walk.specs.declared.leads.Led.{Led}
 use Rattle.walk.specs.declared.leads.Led.the-variants as led
 use Rattle.walk.specs.Leads.{Leads}
 use Rattle.op.specs.Lending.{inRows}
-use Rattle.op.proofs.Doing.{shown-fits}
-use Rattle.op.proofs.Leading.{led-there, led-count, led-refused}
+use Rattle.op.specs.Doing.{Does}
+use Rattle.op.proofs.Doing.{shown-fits, does-refused, does-told}
+use Rattle.op.proofs.Leading.{row-short, row-fits, led-there, led-refused}
+use Rattle.op_look.specs.Rows.{RowIs, put, short}
 
 -- ---- the size in a record
 
@@ -55,41 +57,54 @@ size-low st s h p x e = go (look (s .tree) p) e
 -- ---- one record
 
 -- the record of the entry at p, behind the links ls
-abbrev pub showIt : (lent : ℕ) → Path → List Path → Prog Reply
+unfoldable pub showIt : (lent : ℕ) → Path → List Path → Prog Reply
 showIt lent p ls = asks (stat? p) >>= λ s. fits 1 lent >> ret (statReply s (length ls))
 
 pub show-run : (w : World) (lent : ℕ) (p : Path) (ls : List Path) (x : Stat) → answer (stat? p) w ≡ some x
     → run (showIt lent p ls) w ≡ allowed (leb 1 lent) 14 (done (statReply (some x) (length ls)) w)
-unfolding run _>>=_ fits
+unfolding showIt run _>>=_ fits
 show-run w lent p ls x e = need-run (leb 1 lent) 14 (ret (statReply (answer (stat? p) w) (length ls))) w ∙ ap (λ (o : Option Stat). allowed (leb 1 lent) 14 (done (statReply o (length ls)) w)) e
 
--- in the lent row
-pub row-told : (x : Stat) (rows left : List ℤ) (c links : ℕ) → left ≡ take 0 rows ++ (statNumbers x ++ drop 7 rows) → inRows left c ≡ written (statReply (some x) c) (inRows rows links)
-unfolding rowNumbers
-row-told x rows left c links e = ap (λ (l : List ℤ). inRows l c) e
+-- ---- what a program comes to that ends in one record
+
+module _ (p : Prog Reply) (s : State) (st : Store) (h : Shows st s) (path : Path) (ls : List Path) (rows after : List ℤ) (r links : ℕ)
+    (e : run p (worldOf s) ≡ run (showIt (length rows / 7) path ls) (worldOf s)) (x : RowIs s path rows after r) where
+  abbrev w : World
+  w = worldOf s
+
+  -- by whether there is room
+  by-room : (b : Bool) (y : Stat) → says (stat? path) s ≡ some y → leb 1 (length rows / 7) ≡ b → run p w ≡ allowed b 14 (done (statReply (some y) (length ls)) w)
+  by-room b y q f = e ∙ show-run w (length rows / 7) path ls y q ∙ ap (λ (t : Bool). allowed t 14 (done (statReply (some y) (length ls)) w)) f
+
+  -- 14
+  pub row-refused : (r ≡ 0 → ⊥) → Does p s st (inRows rows links) (inRows after links) r
+  row-refused z = go x
+    where
+      go : RowIs s path rows after r → Does p s st (inRows rows links) (inRows after links) r
+      go (put y q f a n) = absurd (z n)
+      go (short y q f a n) =
+          subst (λ (l : List ℤ). Does p s st (inRows rows links) (inRows l links) r) (sym a)
+          (does-refused p s st h (inRows rows links) r (by-room false y q (row-short (length rows) f) ∙ ap refused (sym n)))
+
+  -- the record is put there, with the count of links
+  pub row-shown : r ≡ 0 → (c : ℕ) → length ls ≡ c → Does p s st (inRows rows links) (inRows after c) 0
+  unfolding rowNumbers
+  row-shown z c k = go x
+    where
+      go : RowIs s path rows after r → Does p s st (inRows rows links) (inRows after c) 0
+      go (put y q f a n) =
+          does-told p s st h (statReply (some y) c) (by-room true y q (row-fits (length rows) f) ∙ ap (λ (m : ℕ). done (statReply (some y) m) w) k)
+          (inRows rows links) (inRows after c) (ap (λ (l : List ℤ). inRows l c) a)
+      go (short y q f a n) = absurd (omega (arith, z, n))
 
 -- ---- metadata
 
 module _ (st : Store) (s : State) (b lent : ℕ) (text out : Bytes) (r : Led) (l : Leads (model.leads b) st s (worldOf s) text out r) where
-  abbrev w : World
-  w = worldOf s
-
-  pub metadata-refused : (n : ℕ) → r ≡ led.Refused n → run (metadataAt b lent (names text)) w ≡ refused n
-  unfolding metadataAt
+  pub metadata-refused : (n : ℕ) → r ≡ led.Refused n → run (metadataAt b lent (names text)) (worldOf s) ≡ refused n
+  unfolding metadataAt showIt
   metadata-refused n e = led-refused (model.leads b) st s text out r l n e (λ t. showIt lent (t .path) (t .links))
 
-  by-room : (spot : Spot) (k n c : ℕ) → r ≡ led.There spot k n c → (x : Stat) → says (stat? (names (take n out))) s ≡ some x
-      → run (metadataAt b lent (names text)) w ≡ allowed (leb 1 lent) 14 (done (statReply (some x) c) w)
-  unfolding metadataAt
-  by-room spot k n c e x y =
-      led-there (model.leads b) st s text out r l spot k n c e (λ t. showIt lent (t .path) (t .links))
-      ∙ show-run w lent (names (take n out)) (l .links) x y
-      ∙ ap (λ (m : ℕ). allowed (leb 1 lent) 14 (done (statReply (some x) m) w)) (led-count (model.leads b) st s text out r l spot k n c e)
-
-  pub metadata-short : (spot : Spot) (k n c : ℕ) → r ≡ led.There spot k n c → (x : Stat) → says (stat? (names (take n out))) s ≡ some x → leb 1 lent ≡ false
-      → run (metadataAt b lent (names text)) w ≡ refused 14
-  metadata-short spot k n c e x y f = by-room spot k n c e x y ∙ ap (λ (t : Bool). allowed t 14 (done (statReply (some x) c) w)) f
-
-  pub metadata-told : (spot : Spot) (k n c : ℕ) → r ≡ led.There spot k n c → (x : Stat) → says (stat? (names (take n out))) s ≡ some x → leb 1 lent ≡ true
-      → run (metadataAt b lent (names text)) w ≡ done (statReply (some x) c) w
-  metadata-told spot k n c e x y f = by-room spot k n c e x y ∙ ap (λ (t : Bool). allowed t 14 (done (statReply (some x) c) w)) f
+  pub metadata-there : (spot : Spot) (k n c : ℕ) → r ≡ led.There spot k n c
+      → run (metadataAt b lent (names text)) (worldOf s) ≡ run (showIt lent (names (take n out)) (l .links)) (worldOf s)
+  unfolding metadataAt showIt
+  metadata-there spot k n c e = led-there (model.leads b) st s text out r l spot k n c e (λ t. showIt lent (t .path) (t .links))

@@ -34,7 +34,7 @@ use Rattle.store.proofs.Asked.{told}
 use Rattle.store_edit.specs.Turns.{Fits, NumberOpen, MayResize}
 use Rattle.store_edit.proofs.Entering.{spot-slot, spot-file, spot-look, open-at}
 
-length-resized : (k : ℕ) (b : Bytes) → length (resized k b) ≡ k
+pub length-resized : (k : ℕ) (b : Bytes) → length (resized k b) ≡ k
 unfolding resized
 length-resized k b =
     length-append (take k b) (replicate (k - length b) 0)

@@ -7,47 +7,27 @@ use Rattle.op.proofs.Calling.{answers}
 use borrow.Author.Needs.{needs}
 use Rattle.jobtree.proofs.look.jobtree_metadata.Statement.{statement}
 use Rattle.jobtree.proofs.look.jobtree_metadata.Tie as tie
-use Rattle.jobtree.proofs.look.jobtree_metadata.Reads as reads
-use Rattle.jobtree.proofs.look.jobtree_metadata.Lts as lts
-use Rattle.jobtree.proofs.look.metadata.Reads as metadata-reads
-use Rattle.op.proofs.clear.clear.Reads as clear-reads
 
--- src/look.rt:95:9
 metadata-requires : tie.Need-metadata-requires
 metadata-requires c κs = search needs
 
--- src/look.rt:108:5
 clear-requires : tie.Need-clear-requires
 clear-requires c κs = search needs
 
--- src/look.rt:109:5
 clear-requires-2 : tie.Need-clear-requires-2
 clear-requires-2 c κs = search needs
 
--- src/look.rt:72:1
 same-length : tie.Need-same-length
 same-length c = search needs
 
--- src/look.rt:72:1
 same-length-2 : tie.Need-same-length-2
 same-length-2 c = search needs
 
--- src/look.rt:72:1
 same-length-3 : tie.Need-same-length-3
 same-length-3 c = search needs
 
--- src/look.rt:72:1
 returns : tie.Need-returns
 returns c = answers (c .before .before .before .before .before .before .before .before .before .before .before .metadata .ensures) _ _ (c .before .before .before .before .before .before .clear .ensures ∙ ap (λ (n : ℕ). replicate n 0) (c .before .before .before .before .before .before .before .before .before .before .before .metadata .kept .1 .1 .1 .1 .1 .1 .0)) (c .before .before .clear2 .ensures)
 
 pub jobtree-metadata-spec : {M : Type 1} → statement M
-jobtree-metadata-spec =
-    tie.close
-    (tie.spec
-    metadata-requires
-    clear-requires
-    clear-requires-2
-    same-length
-    same-length-2
-    same-length-3
-    returns)
+jobtree-metadata-spec = tie.close (tie.spec metadata-requires clear-requires clear-requires-2 same-length same-length-2 same-length-3 returns)

@@ -1,0 +1,4 @@
+pub mod Changing
+pub mod Seeking
+pub mod Reading
+pub mod Resizing
