@@ -1,15 +1,19 @@
-// The calls by file number. They walk no path, and are lent no working buffers.
+// The calls by file number. But for metadata they walk no path, and are lent no working buffers.
 ghost use mathlib.Core.List.{[]};
+ghost use Prim.Native.Nat.{_/_};
 ghost use lib.ListN.{length};
 ghost use Rattle.model.specs.Calls.Calling as op;
 ghost use Rattle.layout.specs.Lent.{before, after};
 ghost use Rattle.layout.specs.Answers.{Answers};
-ghost use Rattle.op.specs.Lending.{callWith, inBytes, inNumber, inNothing};
+ghost use Rattle.op.specs.Lending.{callWith, inBytes, inRows, inNumber, inNothing};
+ghost use Rattle.op.specs.Doing.{Done};
 use lawful::sizes::known;
 use layout::FILE_NUMBERS;
 use layout::MOST_AT;
+use layout::PATHS_BYTES;
 use layout::ROOM_AT;
 use layout::WORD_COUNT;
+use op::clear::clear;
 use op::ready::Number;
 use op::ready::Work;
 use op::ready::ready;
@@ -17,6 +21,7 @@ use op_number::attributes::close_on;
 use op_number::attributes::set_length_on;
 use op_number::attributes::set_mode_on;
 use op_number::attributes::set_times_on;
+use op_number::metadata::metadata_on;
 use op_number::position::read_on;
 use op_number::position::seek_on;
 
@@ -291,4 +296,96 @@ pub extern "C" fn jobtree_set_times_number(
     );
     known(times);
     q
+}
+
+// The record of the entry that the path kept at open leads to now.
+fn metadata_number(
+    words: &[u64],
+    records: &[u64],
+    heads: &[u64],
+    times: &[i64],
+    paths: &[u8],
+    bytes: &[u8],
+    first: &mut [u8],
+    second: &[u8],
+    n: u32,
+    rows: &mut [i64],
+    links: &mut u64,
+) -> u32
+    ensures { λ r. ⌜ Done
+        (callWith (op.metadataNumber n (length (now (rows .entry)) / 7))
+        (inRows (now (rows .entry)) (now (links .entry))) (now (first .entry)) (now (second .entry)))
+        (before words records heads times paths bytes) (after words records heads times paths bytes)
+        (inRows (now (rows .exit)) (now (links .exit))) r ⌝ }
+{
+    let work = Work::Lent(first.len(), second.len());
+    let r = ready(
+        words,
+        records,
+        heads,
+        times,
+        paths,
+        bytes,
+        work,
+        &paths[..0],
+        &paths[..0],
+        Number::Opened(n),
+    );
+    if r != 0 {
+        return r;
+    }
+    let most = words[MOST_AT] as usize;
+    let room = words[ROOM_AT] as usize;
+    let slots = most + FILE_NUMBERS;
+    metadata_on(
+        &words[..WORD_COUNT],
+        &records[..most],
+        &heads[..slots],
+        &times[..4 * slots],
+        &paths[..PATHS_BYTES],
+        &bytes[..room],
+        n as usize,
+        first,
+        rows,
+        links,
+    )
+}
+
+#[no_mangle]
+pub extern "C" fn jobtree_metadata_number(
+    words: &[u64],
+    records: &[u64],
+    heads: &[u64],
+    times: &[i64],
+    paths: &[u8],
+    bytes: &[u8],
+    first: &mut [u8],
+    second: &mut [u8],
+    n: u32,
+    rows: &mut [i64],
+    links: &mut u64,
+) -> u32
+    ensures { λ r. ⌜ Answers
+        (callWith (op.metadataNumber n (length (now (rows .entry)) / 7))
+        (inRows (now (rows .entry)) (now (links .entry))) (now (first .entry)) (now (second .entry)))
+        (before words records heads times paths bytes) (after words records heads times paths bytes)
+        (inRows (now (rows .exit)) (now (links .exit)))
+        (now (first .exit)) (now (second .exit)) r ⌝ }
+{
+    let r = metadata_number(
+        words,
+        records,
+        heads,
+        times,
+        paths,
+        bytes,
+        first,
+        second,
+        n,
+        rows,
+        links,
+    );
+    clear(first);
+    clear(second);
+    r
 }

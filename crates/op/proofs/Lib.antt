@@ -9,3 +9,4 @@ pub mod Calling
 pub mod Naming
 pub mod Writing
 pub mod Numbering
+pub mod Telling

@@ -18,6 +18,7 @@ use Rattle.layout.specs.Store.{Store, rowsOf, kindAt, state}
 use Rattle.layout.specs.Lawful.{Lawful, cellOk}
 use Rattle.layout.proofs.Entered.{entry}
 use Rattle.layout.proofs.Roots.{all-named}
+use Rattle.ask_entry.specs.Reads.{PathIs}
 use Rattle.edit_room.specs.Extents.{trim}
 use Rattle.store.specs.Shows.{Shows, says}
 use Rattle.store.proofs.Asked.{told}
@@ -47,3 +48,7 @@ cell-of s b n h =
 -- the front of a buffer is no longer than it is cut
 pub short-front : (n : ℕ) (out : Bytes) → n ≤ 1024 → length (take n out) ≤ 1024
 short-front n out h = omega (arith, length-take n out, h)
+
+-- a path as it is kept stands in a buffer as it is
+pub path-plain : (p : Path) (r : Bytes) → PathIs p r → Plain r
+path-plain p r h = ap body (h .names) ∙ h .body

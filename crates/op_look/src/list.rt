@@ -28,7 +28,8 @@ fn put_records(
     spot: Spot,
 )
     requires { ⌜ SomeRows (withWords words ∘ withRecords records ∘ withHeads heads ∘ withTimes times) spot (now rows) ⌝ }
-    ensures { λ _. ⌜ OfEntry (onWords words & onRecords records & onHeads heads & onTimes times) spot (λ s p. RowsPut s p (now (rows .entry)) (now (rows .exit))) ⌝ }
+    ensures { λ _. ⌜ OfEntry (onWords words & onRecords records & onHeads heads & onTimes times) spot
+        (λ s p. RowsPut s p (now (rows .entry)) (now (rows .exit))) ⌝ }
 {
     let mut at = 0;
     let mut step = store::listing::first(words, records, spot);

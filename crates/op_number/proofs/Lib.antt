@@ -2,3 +2,4 @@ pub mod Changing
 pub mod Seeking
 pub mod Reading
 pub mod Resizing
+pub mod Keeping

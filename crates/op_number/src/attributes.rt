@@ -31,7 +31,8 @@ pub fn set_length_on(
     size: u64,
 ) -> u32
     requires { ⌜ SomeOpen (withWords words ∘ withRecords records ∘ withHeads heads ∘ withBytes bytes) n ⌝ }
-    ensures { λ r. ⌜ OpenAnswered (onWords words & onRecords records & onHeads heads & onBytes bytes) n (λ _. setLengthOn n size) inNothing inNothing r ⌝ }
+    ensures { λ r. ⌜ OpenAnswered (onWords words & onRecords records & onHeads heads & onBytes bytes) n
+        (λ _. setLengthOn n size) inNothing inNothing r ⌝ }
 {
     let len = store::held(words, heads, bytes, n).len();
     let r = store::space::room_for(words, records, heads, 0, size, len as u64);

@@ -86,8 +86,7 @@ fn bytes_fit(bytes: usize, limit: u64) -> bool
 }
 
 // 0, or refusal 15 or 16. Only the state's words are written: a fresh store has no slot.
-#[no_mangle]
-pub extern "C" fn set_up(
+pub fn set_up(
     words: &mut [u64],
     records: &[u64],
     heads: &[u64],

@@ -33,7 +33,7 @@ same-length : tie.Need-same-length
 same-length c = search needs
 
 returns : tie.Need-returns
-returns c = answers (number-refused _ _ _ _ _ (times-numbers _ _ _ _) _ (c .before .ready .ensures) (c .if1 .taken)) _ _ refl refl
+returns c = answers (number-refused _ _ _ _ _ (times-numbers _ _ _ _) refl _ (c .before .ready .ensures) (c .if1 .taken)) _ _ refl refl
 
 -- the store that is lent
 abbrev store : tie.Start → Store
@@ -74,7 +74,7 @@ returns-2 : tie.Need-returns-2
 returns-2 c = let st = store (c .before .before .before .before .before .before .before .before .before .before .before .before .before .before .before .before .before) in let p = passes (c .before .before .before .before .before .before .before) in
     let a = c .before .before .before .before .before .before .before .before .before .before .before .before .before .before .before .before .before in let d = same-times _ (a .args .flags) (toZ-ofZ w64 (a .args .accessed) (a .fits .accessed)) (toZ-ofZ w64 (a .args .modified) (a .fits .modified)) (c .before .before .before .set-times-on .ensures (cut st) (readBack st) (shows-cut st p) (tested-open (c .before .before .before .before .before .before .before .before .ready .ensures) (c .before .before .before .before .before .before .before .if1 .left))) in
     let b : Returned st _ _ = record { words = as-was _ _; records = as-was _ _; heads = as-was _ _; times = put-back (4 * slotsFor (most st)) (st .times) _ (p .0 .times) (c .before .before .before .set-times-on .kept .1 .0 ∙ length-take-le (4 * slotsFor (most st)) (st .times) (p .0 .times)); paths = as-was _ _; bytes = as-was _ _ } in
-    answers (number-done _ _ st _ _ (times-numbers _ _ _ _) _ (c .before .before .before .before .before .before .before .before .ready .ensures) (c .before .before .before .before .before .before .before .if1 .left) _ _ _ _ d b
+    answers (number-done _ st _ _ _ (times-numbers _ _ _ _) refl _ (c .before .before .before .before .before .before .before .before .ready .ensures) (c .before .before .before .before .before .before .before .if1 .left) _ _ _ _ d b
     (sized-cut (lent (st .words) (st .records) (st .heads) (c .before .before .before .set-times-on .last .1 .0 ++ drop (4 * slotsFor (most st)) (st .times)) (st .paths) (st .bytes)) (λ i. omega (arith, c .before .before .before .before .before .before .before .before .before .before .before .before .before .before .before .before .shared-slice-known .given i)) (λ i. omega (arith, c .before .before .before .before .before .before .before .before .before .before .before .before .before .before .shared-slice-known3 .given i)) (c .known .ensures) (λ i. omega (arith, c .before .before .before .before .before .before .before .before .before .before .before .before .shared-slice-known5 .given i)))) _ _ refl refl
 
 pub jobtree-set-times-number-spec : {M : Type 1} → statement M

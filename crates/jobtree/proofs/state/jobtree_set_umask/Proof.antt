@@ -12,32 +12,22 @@ use Rattle.op.proofs.Numbering.{umask-numbers, tested-passes, number-refused, n
 use borrow.Author.Needs.{needs}
 use Rattle.jobtree.proofs.state.jobtree_set_umask.Statement.{statement}
 use Rattle.jobtree.proofs.state.jobtree_set_umask.Tie as tie
-use Rattle.jobtree.proofs.state.jobtree_set_umask.Reads as reads
-use Rattle.jobtree.proofs.state.jobtree_set_umask.Lts as lts
-use Rattle.op.proofs.ready.ready.Reads as ready-reads
-use Rattle.op_state.proofs.set_umask_to.Reads as set-umask-to-reads
 
--- src/state.rt:49:9
 slice-aggregate-ready : tie.Need-slice-aggregate-ready
 slice-aggregate-ready c = search needs
 
--- src/state.rt:50:9
 slice-aggregate-ready-2 : tie.Need-slice-aggregate-ready-2
 slice-aggregate-ready-2 c = search needs
 
--- src/state.rt:41:9
 ready-requires : tie.Need-ready-requires
 ready-requires c κs = search needs
 
--- src/state.rt:54:9
 same-length : tie.Need-same-length
 same-length c = search needs
 
--- src/state.rt:54:9
 returns : tie.Need-returns
-returns c = answers (number-refused _ _ _ _ _ (umask-numbers _) _ (c .before .ready .ensures) (c .if1 .taken)) _ _ refl refl
+returns c = answers (number-refused _ _ _ _ _ (umask-numbers _) refl _ (c .before .ready .ensures) (c .if1 .taken)) _ _ refl refl
 
--- src/state.rt:56:18
 -- the store that is lent
 abbrev store : tie.Start → Store
 store s = let a = s .args in lent (a .words .now) (a .records .now) (a .heads .now) (a .times .now) (a .paths .now) (a .bytes .now)
@@ -49,37 +39,21 @@ passes c = tested-passes (c .before .ready .ensures) (c .if1 .left)
 slice-relend-prefix-set-umask-to : tie.Need-slice-relend-prefix-set-umask-to
 slice-relend-prefix-set-umask-to c = passes (c) .0 .words
 
--- src/state.rt:56:18
 slice-aggregate-set-umask-to : tie.Need-slice-aggregate-set-umask-to
 slice-aggregate-set-umask-to c = let st = store (c .before .before .before .before .before .before .before .before .before .before .before) in sym (length-take-le 102 (st .words) (passes (c .before) .0 .words))
 
--- src/state.rt:56:5
 set-umask-to-requires : tie.Need-set-umask-to-requires
 set-umask-to-requires c κs = let st = store (c .before .before .before .before .before .before .before .before .before .before .before .before) in (cut st, readBack st, shows-cut st (passes (c .before .before)))
 
--- src/state.rt:24:1
 same-length-2 : tie.Need-same-length-2
 same-length-2 c = search needs
 
--- src/state.rt:24:1
 returns-2 : tie.Need-returns-2
 returns-2 c = let st = store (c .before .before .before .before .before .before .before .before .before .before .before .before .before .before .before) in let p = passes (c .before .before .before .before .before) in
     let d = c .before .before .set-umask-to .ensures (cut st) (readBack st) (shows-cut st p) in
     let b : Returned st _ _ = record { words = put-back 102 (st .words) _ (p .0 .words) (c .before .before .set-umask-to .kept .0 ∙ length-take-le 102 (st .words) (p .0 .words)); records = as-was _ _; heads = as-was _ _; times = as-was _ _; paths = as-was _ _; bytes = as-was _ _ } in
-    answers (number-done _ _ st _ _ (umask-numbers _) _ (c .before .before .before .before .before .before .ready .ensures) (c .before .before .before .before .before .if1 .left) _ _ _ _ d b
+    answers (number-done _ st _ _ _ (umask-numbers _) refl _ (c .before .before .before .before .before .before .ready .ensures) (c .before .before .before .before .before .if1 .left) _ _ _ _ d b
     (sized-kept st _ _ p b (d .shows .roomy .lawful) refl (λ i. omega (arith, c .slice-known2 .given i)) (λ i. omega (arith, c .before .before .before .before .before .before .before .before .before .before .before .before .shared-slice-known2 .given i)) (λ i. omega (arith, c .before .before .before .before .before .before .before .before .before .before .shared-slice-known4 .given i)))) _ _ refl refl
 
 pub jobtree-set-umask-spec : {M : Type 1} → statement M
-jobtree-set-umask-spec =
-    tie.close
-    (tie.spec
-    slice-aggregate-ready
-    slice-aggregate-ready-2
-    ready-requires
-    same-length
-    returns
-    slice-relend-prefix-set-umask-to
-    slice-aggregate-set-umask-to
-    set-umask-to-requires
-    same-length-2
-    returns-2)
+jobtree-set-umask-spec = tie.close (tie.spec slice-aggregate-ready slice-aggregate-ready-2 ready-requires same-length returns slice-relend-prefix-set-umask-to slice-aggregate-set-umask-to set-umask-to-requires same-length-2 returns-2)
