@@ -73,7 +73,7 @@ slice-aggregate-close-on-4 : tie.Need-slice-aggregate-close-on-4
 slice-aggregate-close-on-4 c = let st = store (c .before .before .before .before .before .before .before .before .before .before .before .before .before .before .before .before .before .before) in sym (length-take-le (room st) (st .bytes) (passes (c .before .before .before .before .before .before) .0 .bytes))
 
 close-on-requires : tie.Need-close-on-requires
-close-on-requires c κs = let st = store (c .before .before .before .before .before .before .before .before .before .before .before .before .before .before .before .before .before .before) in (cut st, readBack st, shows-cut st (passes (c .before .before .before .before .before .before)), tested-open (c .before .before .before .before .before .before .before .ready .ensures) (c .before .before .before .before .before .before .if1 .left))
+close-on-requires c κs = let st = store (c .before .before .before .before .before .before .before .before .before .before .before .before .before .before .before .before .before .before) in (cut st, readBack st, shows-cut st (passes (c .before .before .before .before .before .before)), tested-open {st = st} (c .before .before .before .before .before .before .before .ready .ensures) (c .before .before .before .before .before .before .if1 .left))
 
 same-length-4 : tie.Need-same-length-4
 same-length-4 c = search needs
@@ -86,7 +86,7 @@ same-length-6 c = search needs
 
 returns-2 : tie.Need-returns-2
 returns-2 c = let st = store (c .before .before .before .before .before .before .before .before .before .before .before .before .before .before .before .before .before .before .before .before .before .before .before .before .before) in let p = passes (c .before .before .before .before .before .before .before .before .before .before .before .before .before) in
-    let d = c .before .before .before .before .before .before .close-on .ensures (cut st) (readBack st) (shows-cut st p) (tested-open (c .before .before .before .before .before .before .before .before .before .before .before .before .before .before .ready .ensures) (c .before .before .before .before .before .before .before .before .before .before .before .before .before .if1 .left)) in
+    let d = c .before .before .before .before .before .before .close-on .ensures (cut st) (readBack st) (shows-cut st p) (tested-open {st = st} (c .before .before .before .before .before .before .before .before .before .before .before .before .before .before .ready .ensures) (c .before .before .before .before .before .before .before .before .before .before .before .before .before .if1 .left)) in
     let b : Returned st _ _ = record { words = put-back 102 (st .words) _ (p .0 .words) (c .before .before .before .before .before .before .close-on .kept .0 ∙ length-take-le 102 (st .words) (p .0 .words)); records = as-was _ _; heads = put-back (slotsFor (most st)) (st .heads) _ (p .0 .heads) (c .before .before .before .before .before .before .close-on .kept .1 .1 .0 ∙ length-take-le (slotsFor (most st)) (st .heads) (p .0 .heads)); times = as-was _ _; paths = as-was _ _; bytes = put-back (room st) (st .bytes) _ (p .0 .bytes) (c .before .before .before .before .before .before .close-on .kept .1 .1 .1 .0 ∙ length-take-le (room st) (st .bytes) (p .0 .bytes)) } in
     answers (number-done _ st _ _ _ (close-numbers _) refl _ (c .before .before .before .before .before .before .before .before .before .before .before .before .before .before .ready .ensures) (c .before .before .before .before .before .before .before .before .before .before .before .before .before .if1 .left) _ _ _ _ d b
     (sized-kept st _ _ p b (d .shows .roomy .lawful) refl (λ i. omega (arith, c .before .before .before .before .slice-known6 .given i)) (λ i. omega (arith, c .before .before .slice-known7 .given i)) (λ i. omega (arith, c .slice-known8 .given i)))) _ _ refl refl

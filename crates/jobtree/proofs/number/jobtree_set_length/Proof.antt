@@ -67,7 +67,7 @@ slice-aggregate-set-length-on-4 : tie.Need-slice-aggregate-set-length-on-4
 slice-aggregate-set-length-on-4 c = let st = store (c .before .before .before .before .before .before .before .before .before .before .before .before .before .before .before .before .before) in sym (length-take-le (room st) (st .bytes) (passes (c .before .before .before .before .before .before) .0 .bytes))
 
 set-length-on-requires : tie.Need-set-length-on-requires
-set-length-on-requires c κs = let st = store (c .before .before .before .before .before .before .before .before .before .before .before .before .before .before .before .before .before) in (cut st, readBack st, shows-cut st (passes (c .before .before .before .before .before .before)), tested-open (c .before .before .before .before .before .before .before .ready .ensures) (c .before .before .before .before .before .before .if1 .left))
+set-length-on-requires c κs = let st = store (c .before .before .before .before .before .before .before .before .before .before .before .before .before .before .before .before .before) in (cut st, readBack st, shows-cut st (passes (c .before .before .before .before .before .before)), tested-open {st = st} (c .before .before .before .before .before .before .before .ready .ensures) (c .before .before .before .before .before .before .if1 .left))
 
 same-length-3 : tie.Need-same-length-3
 same-length-3 c = search needs
@@ -77,7 +77,7 @@ same-length-4 c = search needs
 
 returns-2 : tie.Need-returns-2
 returns-2 c = let st = store (c .before .before .before .before .before .before .before .before .before .before .before .before .before .before .before .before .before .before .before .before .before .before) in let p = passes (c .before .before .before .before .before .before .before .before .before .before .before) in
-    let d = c .before .before .before .before .set-length-on .ensures (cut st) (readBack st) (shows-cut st p) (tested-open (c .before .before .before .before .before .before .before .before .before .before .before .before .ready .ensures) (c .before .before .before .before .before .before .before .before .before .before .before .if1 .left)) in
+    let d = c .before .before .before .before .set-length-on .ensures (cut st) (readBack st) (shows-cut st p) (tested-open {st = st} (c .before .before .before .before .before .before .before .before .before .before .before .before .ready .ensures) (c .before .before .before .before .before .before .before .before .before .before .before .if1 .left)) in
     let b : Returned st _ _ = record { words = as-was _ _; records = as-was _ _; heads = put-back (slotsFor (most st)) (st .heads) _ (p .0 .heads) (c .before .before .before .before .set-length-on .kept .1 .1 .0 ∙ length-take-le (slotsFor (most st)) (st .heads) (p .0 .heads)); times = as-was _ _; paths = as-was _ _; bytes = put-back (room st) (st .bytes) _ (p .0 .bytes) (c .before .before .before .before .set-length-on .kept .1 .1 .1 .0 ∙ length-take-le (room st) (st .bytes) (p .0 .bytes)) } in
     answers (number-done _ st _ _ _ (length-numbers _ _) refl _ (c .before .before .before .before .before .before .before .before .before .before .before .before .ready .ensures) (c .before .before .before .before .before .before .before .before .before .before .before .if1 .left) _ _ _ _ d b
     (sized-kept st _ _ p b (d .shows .roomy .lawful) refl (λ i. omega (arith, c .before .before .before .before .before .before .before .before .before .before .before .before .before .before .before .before .before .before .before .before .before .shared-slice-known .given i)) (λ i. omega (arith, c .before .before .slice-known3 .given i)) (λ i. omega (arith, c .slice-known4 .given i)))) _ _ refl refl

@@ -52,14 +52,14 @@ slice-aggregate-set-mode-on-2 : tie.Need-slice-aggregate-set-mode-on-2
 slice-aggregate-set-mode-on-2 c = let st = store (c .before .before .before .before .before .before .before .before .before .before .before .before .before) in sym (length-take-le (slotsFor (most st)) (st .heads) (passes (c .before .before .before) .0 .heads))
 
 set-mode-on-requires : tie.Need-set-mode-on-requires
-set-mode-on-requires c κs = let st = store (c .before .before .before .before .before .before .before .before .before .before .before .before .before) in (cut st, readBack st, shows-cut st (passes (c .before .before .before)), tested-open (c .before .before .before .before .ready .ensures) (c .before .before .before .if1 .left))
+set-mode-on-requires c κs = let st = store (c .before .before .before .before .before .before .before .before .before .before .before .before .before) in (cut st, readBack st, shows-cut st (passes (c .before .before .before)), tested-open {st = st} (c .before .before .before .before .ready .ensures) (c .before .before .before .if1 .left))
 
 same-length-2 : tie.Need-same-length-2
 same-length-2 c = search needs
 
 returns-2 : tie.Need-returns-2
 returns-2 c = let st = store (c .before .before .before .before .before .before .before .before .before .before .before .before .before .before .before .before) in let p = passes (c .before .before .before .before .before .before) in
-    let d = c .before .before .set-mode-on .ensures (cut st) (readBack st) (shows-cut st p) (tested-open (c .before .before .before .before .before .before .before .ready .ensures) (c .before .before .before .before .before .before .if1 .left)) in
+    let d = c .before .before .set-mode-on .ensures (cut st) (readBack st) (shows-cut st p) (tested-open {st = st} (c .before .before .before .before .before .before .before .ready .ensures) (c .before .before .before .before .before .before .if1 .left)) in
     let b : Returned st _ _ = record { words = as-was _ _; records = as-was _ _; heads = put-back (slotsFor (most st)) (st .heads) _ (p .0 .heads) (c .before .before .set-mode-on .kept .1 .0 ∙ length-take-le (slotsFor (most st)) (st .heads) (p .0 .heads)); times = as-was _ _; paths = as-was _ _; bytes = as-was _ _ } in
     answers (number-done _ st _ _ _ (mode-numbers _ _) refl _ (c .before .before .before .before .before .before .before .ready .ensures) (c .before .before .before .before .before .before .if1 .left) _ _ _ _ d b
     (sized-kept st _ _ p b (d .shows .roomy .lawful) refl (λ i. omega (arith, c .before .before .before .before .before .before .before .before .before .before .before .before .before .before .before .shared-slice-known .given i)) (λ i. omega (arith, c .slice-known2 .given i)) (λ i. omega (arith, c .before .before .before .before .before .before .before .before .before .before .before .shared-slice-known4 .given i)))) _ _ refl refl

@@ -62,7 +62,7 @@ slice-aggregate-set-times-on-2 : tie.Need-slice-aggregate-set-times-on-2
 slice-aggregate-set-times-on-2 c = let st = store (c .before .before .before .before .before .before .before .before .before .before .before .before .before) in sym (length-take-le (4 * slotsFor (most st)) (st .times) (passes (c .before .before .before) .0 .times))
 
 set-times-on-requires : tie.Need-set-times-on-requires
-set-times-on-requires c κs = let st = store (c .before .before .before .before .before .before .before .before .before .before .before .before .before) in (cut st, readBack st, shows-cut st (passes (c .before .before .before)), tested-open (c .before .before .before .before .ready .ensures) (c .before .before .before .if1 .left))
+set-times-on-requires c κs = let st = store (c .before .before .before .before .before .before .before .before .before .before .before .before .before) in (cut st, readBack st, shows-cut st (passes (c .before .before .before)), tested-open {st = st} (c .before .before .before .before .ready .ensures) (c .before .before .before .if1 .left))
 
 known-requires : tie.Need-known-requires
 known-requires c κs = search needs
@@ -72,7 +72,7 @@ same-length-2 c = search needs
 
 returns-2 : tie.Need-returns-2
 returns-2 c = let st = store (c .before .before .before .before .before .before .before .before .before .before .before .before .before .before .before .before .before) in let p = passes (c .before .before .before .before .before .before .before) in
-    let a = c .before .before .before .before .before .before .before .before .before .before .before .before .before .before .before .before .before in let d = same-times _ (a .args .flags) (toZ-ofZ w64 (a .args .accessed) (a .fits .accessed)) (toZ-ofZ w64 (a .args .modified) (a .fits .modified)) (c .before .before .before .set-times-on .ensures (cut st) (readBack st) (shows-cut st p) (tested-open (c .before .before .before .before .before .before .before .before .ready .ensures) (c .before .before .before .before .before .before .before .if1 .left))) in
+    let a = c .before .before .before .before .before .before .before .before .before .before .before .before .before .before .before .before .before in let d = same-times _ (a .args .flags) (toZ-ofZ w64 (a .args .accessed) (a .fits .accessed)) (toZ-ofZ w64 (a .args .modified) (a .fits .modified)) (c .before .before .before .set-times-on .ensures (cut st) (readBack st) (shows-cut st p) (tested-open {st = st} (c .before .before .before .before .before .before .before .before .ready .ensures) (c .before .before .before .before .before .before .before .if1 .left))) in
     let b : Returned st _ _ = record { words = as-was _ _; records = as-was _ _; heads = as-was _ _; times = put-back (4 * slotsFor (most st)) (st .times) _ (p .0 .times) (c .before .before .before .set-times-on .kept .1 .0 ∙ length-take-le (4 * slotsFor (most st)) (st .times) (p .0 .times)); paths = as-was _ _; bytes = as-was _ _ } in
     answers (number-done _ st _ _ _ (times-numbers _ _ _ _) refl _ (c .before .before .before .before .before .before .before .before .ready .ensures) (c .before .before .before .before .before .before .before .if1 .left) _ _ _ _ d b
     (sized-cut (lent (st .words) (st .records) (st .heads) (c .before .before .before .set-times-on .last .1 .0 ++ drop (4 * slotsFor (most st)) (st .times)) (st .paths) (st .bytes)) (λ i. omega (arith, c .before .before .before .before .before .before .before .before .before .before .before .before .before .before .before .before .shared-slice-known .given i)) (λ i. omega (arith, c .before .before .before .before .before .before .before .before .before .before .before .before .before .before .shared-slice-known3 .given i)) (c .known .ensures) (λ i. omega (arith, c .before .before .before .before .before .before .before .before .before .before .before .before .shared-slice-known5 .given i)))) _ _ refl refl

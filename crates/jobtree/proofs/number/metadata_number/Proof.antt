@@ -65,7 +65,7 @@ slice-aggregate-metadata-on-6 c = let st = store (c .before .before .before .bef
 
 metadata-on-requires : tie.Need-metadata-on-requires
 metadata-on-requires c κs = let st = store (c .before .before .before .before .before .before .before .before .before .before .before .before .before .before .before .before .before .before .before .before .before .before) in
-    ((cut st, readBack st, shows-cut st (passes (c .before .before .before .before .before .before .before .before .before .before .before)), tested-open (c .before .before .before .before .before .before .before .before .before .before .before .before .ready .ensures) (c .before .before .before .before .before .before .before .before .before .before .before .if1 .left)), tested-room (c .before .before .before .before .before .before .before .before .before .before .before .before .ready .ensures) (c .before .before .before .before .before .before .before .before .before .before .before .if1 .left))
+    ((cut st, readBack st, shows-cut st (passes (c .before .before .before .before .before .before .before .before .before .before .before)), tested-open {st = st} (c .before .before .before .before .before .before .before .before .before .before .before .before .ready .ensures) (c .before .before .before .before .before .before .before .before .before .before .before .if1 .left)), tested-room {st = st} (c .before .before .before .before .before .before .before .before .before .before .before .before .ready .ensures) (c .before .before .before .before .before .before .before .before .before .before .before .if1 .left))
 
 same-length : tie.Need-same-length
 same-length c = search needs
@@ -76,7 +76,7 @@ same-length-2 c = search needs
 returns-2 : tie.Need-returns-2
 returns-2 c = let st = store (c .before .before .before .before .before .before .before .before .before .before .before .before .before .before .before .before .before .before .before .before .before .before .before .before .before .before) in let p = passes (c .before .before .before .before .before .before .before .before .before .before .before .before .before .before .before) in
     number-done _ st _ _ _ (metadata-numbers _ _ _ _) refl _ (c .before .before .before .before .before .before .before .before .before .before .before .before .before .before .before .before .ready .ensures) (c .before .before .before .before .before .before .before .before .before .before .before .before .before .before .before .if1 .left) (cut st) st _ _
-    (c .before .before .before .metadata-on .ensures (cut st) (readBack st) (shows-cut st p) (tested-open (c .before .before .before .before .before .before .before .before .before .before .before .before .before .before .before .before .ready .ensures) (c .before .before .before .before .before .before .before .before .before .before .before .before .before .before .before .if1 .left))) (not-written st) (p .2)
+    (c .before .before .before .metadata-on .ensures (cut st) (readBack st) (shows-cut st p) (tested-open {st = st} (c .before .before .before .before .before .before .before .before .before .before .before .before .before .before .before .before .ready .ensures) (c .before .before .before .before .before .before .before .before .before .before .before .before .before .before .before .if1 .left))) (not-written st) (p .2)
 
 pub metadata-number-spec : {M : Type 1} → statement M
 metadata-number-spec = tie.close (tie.spec slice-aggregate-ready slice-aggregate-ready-2 ready-requires returns shared-slice-read-most shared-slice-read-room add-slots slice-aggregate-metadata-on slice-aggregate-metadata-on-2 slice-aggregate-metadata-on-3 mul-metadata-on slice-aggregate-metadata-on-4 slice-aggregate-metadata-on-5 slice-aggregate-metadata-on-6 metadata-on-requires same-length same-length-2 returns-2)
