@@ -209,9 +209,9 @@ static inline int jobtree_cut(struct jobtree *tree, void *memory, size_t size, u
 
 /* A fresh store, whatever the memory held: no root, umask octal 666, current directory `/`, no number open. */
 uint32_t jobtree_set_up(
-    uint64_t *words, uint64_t words_count, const uint64_t *records, uint64_t records_count,
-    const uint64_t *heads, uint64_t heads_count, const int64_t *times, uint64_t times_count,
-    const uint8_t *paths, uint64_t paths_count, const uint8_t *bytes, uint64_t bytes_count,
+    uint64_t *words, uint64_t words_count, uint64_t *records, uint64_t records_count,
+    uint64_t *heads, uint64_t heads_count, int64_t *times, uint64_t times_count,
+    uint8_t *paths, uint64_t paths_count, uint8_t *bytes, uint64_t bytes_count,
     uint64_t most, uint64_t room);
 
 static inline uint32_t jobtree_call_set_up(struct jobtree *tree, uint64_t most, uint64_t room)

@@ -12,15 +12,16 @@ use op_back::tell_number;
 use op_back::tell_usage;
 use setup::set_up;
 
-// A fresh store of those limits; or 15 or 16. Only the state's words are written.
+// A fresh store of those limits; or 15 or 16. Only the state's words are written; the other slices are lent to be written later, and C
+// compilers warn where memory that nobody has written is lent to be read alone.
 #[no_mangle]
 pub extern "C" fn jobtree_set_up(
     words: &mut [u64],
-    records: &[u64],
-    heads: &[u64],
-    times: &[i64],
-    paths: &[u8],
-    bytes: &[u8],
+    records: &mut [u64],
+    heads: &mut [u64],
+    times: &mut [i64],
+    paths: &mut [u8],
+    bytes: &mut [u8],
     most: u64,
     room: u64,
 ) -> u32
