@@ -1,3 +1,4 @@
+#![tactic(auto)]
 // Text of a path or a target (refusal 2): RFC 3629, without the zero byte.
 ghost use Rattle.std.specs.Prelude.{true, ◌≡◌, ◌<◌, [], ◌∷◌, length, drop, get_or};
 ghost use Rattle.text.specs.Utf8.{tail, rows, starts, char_length, text};

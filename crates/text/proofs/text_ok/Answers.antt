@@ -4,15 +4,11 @@ use mathlib.Core.Path.{refl, sym}
 use borrow.Author.Rules.{rules}
 use Rattle.text.specs.Classes.{leads, classes, place, class_of, tabulate, table}
 use Rattle.text.proofs.Looking.{plain-text}
-use Rattle.text.proofs.text_ok.Statement.{statement}
-use Rattle.text.proofs.text_ok.Tie as tie
+use Rattle.text.proofs.text_ok.Goals as goal
 
-returns : tie.Need-returns
-returns c = sym (plain-text _ (c.before.all_plain.ensures c.if1.true))
+pub returns-then-all_plain : goal.returns-then-all_plain
+returns-then-all_plain c = sym (plain-text _ (c.all_plain.ensures c.if-all_plain.true))
 
-walk-requires : tie.Need-walk-requires
+pub walk-requires : goal.walk-requires
 unfolding table tabulate class_of classes leads place
-walk-requires c κs = refl
-
-pub text-ok-spec : {M : Type 1} → statement M
-text-ok-spec = tie.close (tie.spec (λ c κs. search rules) returns walk-requires (λ c. search rules))
+walk-requires c = refl
