@@ -1,3 +1,4 @@
+#![tactic(auto)]
 // Moves of a part of a slice inside it, and rotations: two parts that stand one behind the other are exchanged.
 ghost use Rattle.std.specs.Prelude.{◌≡◌, ◌+◌, ◌-◌, ◌≤◌, length};
 ghost use Rattle.std.proofs.Math.Seq.{paste};
