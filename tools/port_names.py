@@ -12,6 +12,8 @@ import collections, os, re, sys
 TOP = os.path.dirname(os.path.dirname(os.path.abspath(__file__)))
 TOKEN = re.compile(r"[^\W\d][\w'→←∘?∷≡≤<ℕℤ-]*", re.U)
 SIGNATURE = re.compile(r"^(?:abbrev |unfoldable |pub )*([^\s:(){}]+) : ")
+WITHIN = re.compile(r"^ +(?:abbrev |unfoldable |pub )*([^\s:(){}λ]+) : ")
+ANSWERS = ("Proof.antt", "Answers.antt", "Invariants.antt")
 PLAIN = set("""a all also an and any as at be both by each first for from has if in into is it its itself last least left more most next
     no none not of on one only or other out over own past right same so some still than that the their then there they to too two under up
     upto was well when where which whole with within without""".split())
@@ -48,7 +50,7 @@ def declared():
     names, outside = set(), set()
     for p in under("crates", ".antt"):
         lines, inside = read(p).split("\n"), None
-        answers = os.path.basename(p) == "Proof.antt"
+        answers = os.path.basename(p) in ANSWERS
         for line in lines:
             if answers and (m := SIGNATURE.match(line)) and not re.search(r"[a-z][A-Z]", m.group(1)):
                 # a proof of one function: its names go with the goals
@@ -67,8 +69,8 @@ def declared():
             if m := re.match(r"^(?:pub )?use (\S+?)\.\{(.*)\}", line):
                 if not m.group(1).startswith("Rattle.") or m.group(1).startswith("Rattle.std."):
                     outside.update(x.strip() for x in m.group(2).split(","))
-            # helpers in a `where`, and names bound by `let` or `λ`, go with the words of the file
-            if m := re.match(r"^    +([a-z]\w*) : ", line):
+            # what stands in a module or a `where`, and names bound by `let` or `λ`, go with the words of the file
+            if (m := WITHIN.match(line)) and not answers and (re.search(r"[a-z0-9][A-Z]", m.group(1)) or line[2:3] != " " or m.group(1).isidentifier()):
                 names.add(m.group(1))
             names.update(re.findall(r"\(([a-z][a-z0-9]*[A-Z]\w*) :", line))
             names.update(re.findall(r"let ([a-z][a-z0-9]*[A-Z]\w*)", line))

@@ -19,7 +19,7 @@ use Rattle.model.proofs.Entries.{some_inj, clash}
 use Rattle.layout.specs.Store.{Store, here_length, holder, position, kept_length, cell, bytes_at, state}
 use Rattle.layout.specs.Lawful.{cell_ok, kept_ok, Lawful}
 use Rattle.layout.proofs.Tables.{open-found, open_there}
-use Rattle.layout.proofs.Entered.{has-file, stood}
+use Rattle.layout.proofs.Entered.{has_file, stood}
 use Rattle.ask_entry.specs.Reads.{world_in, PathIs, kept_of, NumberIs}
 use Rattle.ask_entry.specs.declared.Number.TheVariants as Number
 
@@ -63,7 +63,7 @@ module _ (st : Store) (l : Lawful st) (n : ℕ) (h : n < 32) where
   held-told z =
       let s = stood st l n h z in
       ap (λ (o : Option Open). on_some {B = Bytes} o (λ p. on_some (file_of (state st).files p.id) (λ f. some f.bytes))) (open_there st 32 0 n (omega arith) (omega arith) z)
-      ∙ ap (λ (o : Option File). on_some {B = Bytes} o (λ f. some f.bytes)) (has-file st l (holder st n - 1) (omega (arith, s.one, s.low)) s.kind)
+      ∙ ap (λ (o : Option File). on_some {B = Bytes} o (λ f. some f.bytes)) (has_file st l (holder st n - 1) (omega (arith, s.one, s.low)) s.kind)
 
 -- ---- by the words that were read, and of any number: none is open from 32 on
 

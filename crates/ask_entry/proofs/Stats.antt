@@ -19,7 +19,7 @@ use Rattle.layout.specs.Fields as fields
 use Rattle.layout.specs.Store.{Store, count, meta_at, bytes_at, kind_at, node_at, state}
 use Rattle.layout.specs.Lawful.{Lawful}
 use Rattle.layout.proofs.Slotted.{bytes-length}
-use Rattle.layout.proofs.Entered.{has-file}
+use Rattle.layout.proofs.Entered.{has_file}
 use Rattle.ask_find.specs.Paths.{slot_at, path_at}
 use Rattle.ask_find.proofs.Records.{slot-low, path-look}
 use Rattle.ask_find.specs.declared.Spot.{Spot}
@@ -41,8 +41,8 @@ module _ (st : Store) (l : Lawful st) where
   node k a b = cond a (dir (meta_at st k)) (cond b (file k) (link (meta_at st k) (bytes_at st k)))
 
   -- the bytes of a slot are as many as its word says
-  long-at : (k : ℕ) → k < length st.heads → length (bytes_at st k) ≡ len_of (get_or st.heads k 0)
-  long-at k h = bytes-length st k (omega (arith, l.space, l.exact.bytes)) h
+  long_at : (k : ℕ) → k < length st.heads → length (bytes_at st k) ≡ len_of (get_or st.heads k 0)
+  long_at k h = bytes-length st k (omega (arith, l.space, l.exact.bytes)) h
 
   -- its kind
   kind-at : (k : ℕ) → node_kind (node_at st k) ≡ kind_by (kind_at st k)
@@ -64,8 +64,8 @@ module _ (st : Store) (l : Lawful st) where
       go true true d e = absurd (omega (arith, eqb-true (kind_at st k) 1 d, eqb-true (kind_at st k) 2 e))
       go true false d e = refl
       go false true d e =
-          ap (λ (o : Option File). on_some {B = Stat} o (λ f. some (record { kind = aFile; size = length f.bytes; meta = f.meta }))) (has-file st l k h (eqb-true (kind_at st k) 2 e))
-          ∙ ap (λ (n : ℕ). some (record { kind = aFile; size = n; meta = meta_at st k })) (long-at k h)
+          ap (λ (o : Option File). on_some {B = Stat} o (λ f. some (record { kind = aFile; size = length f.bytes; meta = f.meta }))) (has_file st l k h (eqb-true (kind_at st k) 2 e))
+          ∙ ap (λ (n : ℕ). some (record { kind = aFile; size = n; meta = meta_at st k })) (long_at k h)
       go false false d e = refl
 
   -- the bytes of a file and the target of a link
@@ -78,7 +78,7 @@ module _ (st : Store) (l : Lawful st) where
           → (node_kind (node k a b) ≡ aFile → bytes_of (world_of (state st)) (node k a b) ≡ some (bytes_at st k)) × (node_kind (node k a b) ≡ a_link → target_of (node k a b) ≡ some (bytes_at st k))
       go true b e = (λ z. other_kind a_dir aFile z (λ w. omega arith), λ z. other_kind a_dir a_link z (λ w. omega arith))
       go false true e =
-          (λ z. ap (λ (o : Option File). on_some {B = Bytes} o (λ f. some f.bytes)) (has-file st l k h (eqb-true (kind_at st k) 2 e)), λ z. other_kind aFile a_link z (λ w. omega arith))
+          (λ z. ap (λ (o : Option File). on_some {B = Bytes} o (λ f. some f.bytes)) (has_file st l k h (eqb-true (kind_at st k) 2 e)), λ z. other_kind aFile a_link z (λ w. omega arith))
       go false false e = (λ z. other_kind a_link aFile z (λ w. omega arith), λ z. refl)
 
   -- ---- the entry of record i

@@ -93,8 +93,8 @@ module _ (st : Store) (l : Lawful st) where
     size_is : s ≡ block_end st i - suc i
     size_is = omega arith
 
-    pub rest-is : drop (suc i) (rows_of st) ≡ block st i (block_end st i) ++ drop (block_end st i) (rows_of st)
-    rest-is = sym (take-append-drop s (drop (suc i) (rows_of st))) ∙ (λ j. take (size_is j) (drop (suc i) (rows_of st)) ++ behind_is j)
+    pub rest_is : drop (suc i) (rows_of st) ≡ block st i (block_end st i) ++ drop (block_end st i) (rows_of st)
+    rest_is = sym (take-append-drop s (drop (suc i) (rows_of st))) ∙ (λ j. take (size_is j) (drop (suc i) (rows_of st)) ++ behind_is j)
 
     pub block-beyond : NotDeeper d (drop (block_end st i) (rows_of st))
     block-beyond = subst (NotDeeper d) behind_is parts-of.1
@@ -116,7 +116,7 @@ module _ (st : Store) (l : Lawful st) where
       block-parts =
           record {
             first = first-is;
-            parts = parts_at st l i h ∙ (λ j. first-is j ++ (row_at st i ∷ rest-is j));
+            parts = parts_at st l i h ∙ (λ j. first-is j ++ (row_at st i ∷ rest_is j));
             path = path_is;
             deeper = subst (λ (k : ℕ). Deeper d (take k (drop (suc i) (rows_of st)))) size_is parts-of.0;
             beyond = block-beyond;

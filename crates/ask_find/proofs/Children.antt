@@ -87,8 +87,8 @@ module _ (st : Store) (l : Lawful st) where
   -- ---- hidden records
 
   -- two records have two paths
-  pub path-one : (i j : ℕ) → i < count st → j < count st → path_at st i ≡ path_at st j → i ≡ j
-  path-one i j a b e = go (leb i j) refl (leb j i) refl
+  pub path_one : (i j : ℕ) → i < count st → j < count st → path_at st i ≡ path_at st j → i ≡ j
+  path_one i j a b e = go (leb i j) refl (leb j i) refl
     where
       go : (u : Bool) → leb i j ≡ u → (v : Bool) → leb j i ≡ v → i ≡ j
       go true x true y = omega (arith, leb-true i j x, leb-true j i y)
@@ -111,7 +111,7 @@ module _ (st : Store) (l : Lawful st) where
         where
           go : (o : Option Path) → behind q (p ++ (x ∷ [])) ≡ o → behind q (p ++ (x ∷ [])) ≡ none
           go none u = u
-          go (some r) u = absurd (d (path-one j h g a (z ∙ sym (last_name_lem q p r x n u) ∙ sym f)))
+          go (some r) u = absurd (d (path_one j h g a (z ∙ sym (last_name_lem q p r x n u) ∙ sym f)))
 
       -- one that is
       hidden-gone : h < count st → path_at st h ≡ p ++ (x ∷ []) → Hides st h p t → look t (p ++ (x ∷ [])) ≡ none
@@ -222,8 +222,8 @@ module _ (ws : List ℕ) (bs : Bytes) (n : ℕ) (st : Store) (e : st.records ≡
       ≡ find_in (depth_of (get_or st.records s.at 0)) x (drop (s.at + 1) (rows_of st)) (s.at + 1) m
   asked_is s x m = λ j. find_in (depth_of (get_or (sym e j) s.at 0)) x (drop (s.at + 1) (rows (take (sym c j) (sym e j)) (sym f j))) (s.at + 1) m
 
-  pub next-is : (s : Spot) (m : ℕ) → m ≡ name_total (take (s.at + 1) ws) → m ≡ name_total (take (s.at + 1) st.records)
-  next-is s m z = z ∙ ap (λ (us : List ℕ). name_total (take (s.at + 1) us)) (sym e)
+  pub next_is : (s : Spot) (m : ℕ) → m ≡ name_total (take (s.at + 1) ws) → m ≡ name_total (take (s.at + 1) st.records)
+  next_is s m z = z ∙ ap (λ (us : List ℕ). name_total (take (s.at + 1) us)) (sym e)
 
   pub depth_is : (s : Spot) (g : ℕ) → g ≡ depth_of (get_or ws s.at 0) + 1 → g ≡ depth_of (get_or st.records s.at 0) + 1
   depth_is s g z = z ∙ ap (λ (us : List ℕ). depth_of (get_or us s.at 0) + 1) (sym e)

@@ -25,7 +25,7 @@ use Rattle.name_order.specs.declared.Order.{Order}
 use Rattle.name_order.specs.declared.Order.TheVariants.{Less, Same, More}
 use Rattle.name_order.proofs.Orders.{before_of_less, same_of_same, behind_of_more}
 use Rattle.layout.specs.Parts.{path_after, dir_after, Behind}
-use Rattle.layout.proofs.Edited.Removing.{walk-follows, next-keeps}
+use Rattle.layout.proofs.Edited.Removing.{walk-follows, next_keeps}
 use Rattle.ask_find.specs.declared.Place.{Place}
 use Rattle.ask_find.specs.declared.Place.TheVariants.{Found, Missing}
 use Rattle.ask_find.specs.Finds.{pick_place, by_order, find_in}
@@ -39,8 +39,8 @@ pub record Fits (q : Path) (x : Name) (p : Path) (d : Bool) : Type 0 where
 
 module _ (q : Path) (x : Name) where
   -- behind the directory itself
-  pub fits-first : Fits q x q true
-  fits-first = record { within = take-length q; follows = by_follows q true (suc (length q)) x (below refl) }
+  pub fits_first : Fits q x q true
+  fits_first = record { within = take-length q; follows = by_follows q true (suc (length q)) x (below refl) }
 
   -- an entry of the directory stands behind one with a lesser name
   stands : (c y : Name) (e : Bool) → T (precedes c y) → T (follows (q ++ (c ∷ [])) e (suc (length q)) y)
@@ -62,10 +62,10 @@ module _ (q : Path) (x : Name) where
 
     -- behind what lies deeper
     fits-deeper : (kind : ℕ → ℕ) (n : ℕ) (r : Row) (e : Bool) → suc (length q) < r.depth → T (follows p d r.depth r.name) → Fits q x (path_of p r) e
-    fits-deeper kind n r e l t = record { within = next-keeps kind n (length q) p d r r.depth refl (omega (arith, l)) t ∙ u.within; follows = go (suc (length q)) refl (follows_by p d (suc (length q)) x u.follows) }
+    fits-deeper kind n r e l t = record { within = next_keeps kind n (length q) p d r r.depth refl (omega (arith, l)) t ∙ u.within; follows = go (suc (length q)) refl (follows_by p d (suc (length q)) x u.follows) }
       where
         keeps : take (suc (length q)) (path_of p r) ≡ take (suc (length q)) p
-        keeps = next-keeps kind n (suc (length q)) p d r r.depth refl l t
+        keeps = next_keeps kind n (suc (length q)) p d r r.depth refl l t
 
         short : (k : ℕ) → Follows p d r.name k → k ≤ suc (length p)
         short k (aside j h z) = omega arith

@@ -22,7 +22,7 @@ use Rattle.layout.proofs.Edited.Removing.{walk-follows, walk-rises, below-keeps}
 use Rattle.layout.proofs.Edited.Taking.{one_deep}
 use Rattle.ask_find.specs.Paths.{row_at, path_at}
 use Rattle.ask_find.specs.Spots.{block_end}
-use Rattle.ask_find.proofs.Blocks.{block, Block, block-parts, rest-is}
+use Rattle.ask_find.proofs.Blocks.{block, Block, block-parts, rest_is}
 use Rattle.ask_find.proofs.Records.{rest_at, path_next, root-path, walk-behind}
 
 -- what stands behind a path and all below it may stand behind the path alone
@@ -79,7 +79,7 @@ module _ (st : Store) (l : Lawful st) (h : ℕ) (a : h < count st) (p : Path) (x
   walk : T (walk_ok kinds slots up dir (row ∷ (block st h e ++ drop e (rows_of st))))
   walk =
       let k : suc (h - 1) ≡ h = omega (arith, not_root) in
-      subst (λ (rs : List Row). T (walk_ok kinds slots up dir rs)) (rest_at st l h a ∙ ap (λ (rs : List Row). row ∷ rs) (rest-is st l h a))
+      subst (λ (rs : List Row). T (walk_ok kinds slots up dir rs)) (rest_at st l h a ∙ ap (λ (rs : List Row). row ∷ rs) (rest_is st l h a))
       (subst (λ (k : ℕ). T (walk_ok kinds slots (path_after [] (take k (rows_of st))) (dir_after kinds false (take k (rows_of st))) (drop k (rows_of st)))) k (walk-behind st l (h - 1)))
 
   first : T (follows up dir row.depth row.name)
@@ -100,14 +100,14 @@ module _ (st : Store) (l : Lawful st) (h : ℕ) (a : h < count st) (p : Path) (x
   abbrev at : Path
   at = take d up ++ (row.name ∷ [])
 
-  at-is : at ≡ p ++ (x ∷ [])
-  at-is = sym (at_path kinds slots up dir row (block st h e) (drop e (rows_of st)) d deep.1 dx nb walk) ∙ sym (path_next st l h a) ∙ z
+  at_is : at ≡ p ++ (x ∷ [])
+  at_is = sym (at_path kinds slots up dir row (block st h e) (drop e (rows_of st)) d deep.1 dx nb walk) ∙ sym (path_next st l h a) ∙ z
 
   at_long : length at ≡ suc d
   at_long = at_length kinds slots up dir row (block st h e) (drop e (rows_of st)) d deep.1 dx nb walk
 
-  d-is : d ≡ length p
-  d-is = omega (arith, at_long, ap length at-is, length-append p (x ∷ []))
+  d_is : d ≡ length p
+  d_is = omega (arith, at_long, ap length at_is, length-append p (x ∷ []))
 
   end-keeps : take (suc d) (path_after at (block st h e)) ≡ at
   end-keeps =
@@ -117,9 +117,9 @@ module _ (st : Store) (l : Lawful st) (h : ℕ) (a : h < count st) (p : Path) (x
   pub gap-instead : Between kinds (take h (rows_of st)) (drop e (rows_of st)) p x
   gap-instead =
       record {
-        within = ap (λ (k : ℕ). take k up) (sym d-is) ∙ snoc-equal (take d up) p row.name x at-is;
-        follows = subst (λ (k : ℕ). T (follows up dir (suc k) x)) d-is (subst (λ (y : Name). T (follows up dir (suc d) y)) (last_equal (take d up) p row.name x at-is) (subst (λ (k : ℕ). T (follows up dir k row.name)) deep.1 first));
-        behind = subst (λ (o : Path). Behind o (drop e (rows_of st))) at-is
+        within = ap (λ (k : ℕ). take k up) (sym d_is) ∙ snoc-equal (take d up) p row.name x at_is;
+        follows = subst (λ (k : ℕ). T (follows up dir (suc k) x)) d_is (subst (λ (y : Name). T (follows up dir (suc d) y)) (last_equal (take d up) p row.name x at_is) (subst (λ (k : ℕ). T (follows up dir k row.name)) deep.1 first));
+        behind = subst (λ (o : Path). Behind o (drop e (rows_of st))) at_is
             (behind_of kinds slots at (path_after at (block st h e)) (dir_after kinds (eqb (kinds row.slot) 1) (block st h e)) (suc d) (drop e (rows_of st)) at_long end-keeps nb
             (behind-ok kinds slots up dir row (block st h e) (drop e (rows_of st)) d deep.1 dx nb walk));
       }

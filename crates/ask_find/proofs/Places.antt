@@ -22,12 +22,12 @@ use Rattle.layout.specs.Alike.{HasSlot}
 use Rattle.layout.proofs.Named.{name_sum, name-offset}
 use Rattle.layout.specs.Parts.{path_after, dir_after, Behind, Between}
 use Rattle.layout.proofs.Edited.Parted.{after_both, dir_both}
-use Rattle.layout.proofs.Edited.Gaps.{gap-none}
+use Rattle.layout.proofs.Edited.Gaps.{gap_none}
 use Rattle.ask_find.specs.declared.Place.{Place}
 use Rattle.ask_find.specs.declared.Place.TheVariants.{Found, Missing}
 use Rattle.ask_find.specs.Finds.{find_in}
 use Rattle.ask_find.specs.Paths.{slot_at, path_at}
-use Rattle.ask_find.proofs.Finding.{MissingAt, Says, fits-first, scans}
+use Rattle.ask_find.proofs.Finding.{MissingAt, Says, fits_first, scans}
 use Rattle.ask_find.proofs.Records.{rows_long, total-live, walk-behind, dir-next, slot-low, path-look, path-slot, path-depth}
 
 -- record j has the entry x of the directory at record i, and o is the offset of its name
@@ -64,14 +64,14 @@ module _ (st : Store) (l : Lawful st) (i : ℕ) (h : i < count st) (d : kind_at 
 
   says : (w : Place) → w ≡ asked → Says (kind_at st) q x q true behind (suc i) o w
   says w z =
-      let s = scans (kind_at st) (length st.heads) q x q true behind (suc i) o (fits-first q x) (subst (λ (b : Bool). T (walk_ok (kind_at st) (length st.heads) q b behind)) is-dir (walk-behind st l i)) in
+      let s = scans (kind_at st) (length st.heads) q x q true behind (suc i) o (fits_first q x) (subst (λ (b : Bool). T (walk_ok (kind_at st) (length st.heads) q b behind)) is-dir (walk-behind st l i)) in
       let y : find_in (length q) x behind (suc i) o ≡ w =
       ap (λ (k : ℕ). find_in k x behind (suc i) o) (path-depth st l i h) ∙ ap (λ (k : ℕ). find_in (depth_of (get_or st.records i 0)) x (drop k (rows_of st)) k o) (sym (add-one i)) ∙ sym z in
       subst (λ (v : Place). Says (kind_at st) q x q true behind (suc i) o v) y s
 
   -- the offset, by the names that were passed
-  offset-of : (j b a : ℕ) → j ≡ suc i + a → b ≡ o + name_sum (take a behind) → b ≡ name_total (take j (live st))
-  offset-of j b a z y =
+  offset_of : (j b a : ℕ) → j ≡ suc i + a → b ≡ o + name_sum (take a behind) → b ≡ name_total (take j (live st))
+  offset_of j b a z y =
       let first : name_total (take (suc i) (live st)) ≡ o = total-live st l (suc i) (omega (arith, h)) ∙ ap (λ (k : ℕ). name_total (take k st.records)) (sym (add-one i)) ∙ sym e in
       let rest = name-offset (suc i) a (live st) st.bytes (omega (arith, l.space, l.exact.bytes)) in
       rw z (omega (arith, y, first, rest))
@@ -89,7 +89,7 @@ module _ (st : Store) (l : Lawful st) (i : ℕ) (h : i < count st) (d : kind_at 
       record {
         after = omega (arith, f.at);
         within = g;
-        offset = offset-of j b f.index f.at f.offset;
+        offset = offset_of j b f.index f.at f.offset;
         path = p;
         slot = subst (λ (u : Path). HasSlot st u (slot_at st j)) p (path-slot st l j g);
         node = subst (λ (u : Path). look (state st).tree u ≡ some (node_at st (slot_at st j))) p (path-look st l j g);
@@ -112,7 +112,7 @@ module _ (st : Store) (l : Lawful st) (i : ℕ) (h : i < count st) (d : kind_at 
   none_at j a b g =
       let n = length st.heads in
       ap (λ (rs : List Row). look (tree_from (node_at st) [] rs) (q ++ (x ∷ []))) (sym (take-append-drop j (rows_of st)))
-      ∙ gap-none (kind_at st) n (take j (rows_of st)) (drop j (rows_of st)) q x g (node_at st) (subst (λ (rs : List Row). T (rows_ok (kind_at st) n rs)) (sym (take-append-drop j (rows_of st))) l.entries) (slot_at st i) (slot-low st l i h)
+      ∙ gap_none (kind_at st) n (take j (rows_of st)) (drop j (rows_of st)) q x g (node_at st) (subst (λ (rs : List Row). T (rows_ok (kind_at st) n rs)) (sym (take-append-drop j (rows_of st))) l.entries) (slot_at st i) (slot-low st l i h)
       (λ z. omega (arith, a, ap length z, length-take-le j (rows_of st) (omega (arith, b, rows_long st l))))
 
   pub missing-gap : (j b : ℕ) → Missing j b ≡ asked → MissingGap st i x j b
@@ -123,7 +123,7 @@ module _ (st : Store) (l : Lawful st) (i : ℕ) (h : i < count st) (d : kind_at 
       record {
         after = a;
         within = c;
-        offset = offset-of j b m.index m.at m.offset;
+        offset = offset_of j b m.index m.at m.offset;
         deep = omega (arith, path-depth st l i h);
         gap = gap_at j b m;
         missing = none_at j a c (gap_at j b m);

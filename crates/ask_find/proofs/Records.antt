@@ -22,7 +22,7 @@ use Rattle.layout.specs.Lawful.{walk_ok, root_ok, rows_ok, Lawful}
 use Rattle.layout.specs.Alike.{HasSlot}
 use Rattle.layout.proofs.Named.{length-rows, rows_drop}
 use Rattle.layout.proofs.Rising.{Rises, follows_by, next_length}
-use Rattle.layout.proofs.Walks.{At, look_at, at_slot, at-rises}
+use Rattle.layout.proofs.Walks.{At, look_at, at_slot, at_rises}
 use Rattle.layout.proofs.Roots.{all_slots, all-look}
 use Rattle.layout.proofs.Used.{live-length}
 use Rattle.layout.specs.Parts.{path_after, dir_after}
@@ -159,7 +159,7 @@ module _ (st : Store) (l : Lawful st) where
       let f : path_after [] (take j (rows_of st)) ≡ path_after p c =
       ap (λ (k : ℕ). path_after [] (take k (rows_of st))) e ∙ ap (path_after []) (take-add (suc i) m (rows_of st)) ∙ after_both [] (take (suc i) (rows_of st)) c in
       subst (Rises p) (sym (path_next j h ∙ ap (λ (o : Path). path_of o r) f))
-      (at-rises kinds slots p d (c ++ (r ∷ b)) (subst (λ (rs : List Row). T (walk_ok kinds slots p d rs)) s (walk-behind i)) (path_of (path_after p c) r) r (at_seam p c r b))
+      (at_rises kinds slots p d (c ++ (r ∷ b)) (subst (λ (rs : List Row). T (walk_ok kinds slots p d rs)) s (walk-behind i)) (path_of (path_after p c) r) r (at_seam p c r b))
 
   -- what a look finds is the entry of a record
   pub record Holder (q : Path) (m : Node) : Type 0 where

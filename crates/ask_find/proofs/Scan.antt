@@ -43,9 +43,9 @@ pub scan-room : (ws : List ℕ) (bs : Bytes) (n j o : ℕ) → n ≤ length ws �
 scan-room ws bs n j o h l k = omega (arith, names_at ws n j h l, k)
 
 module _ (ws : List ℕ) (bs : Bytes) (n d : ℕ) (x : Bytes) (j o : ℕ) (h : n ≤ length ws) (l : j < n) where
-  pub scan-out : depth_of (get_or ws j 0) ≤ d → scan ws bs n d x j o ≡ Missing j o
+  pub scan_out : depth_of (get_or ws j 0) ≤ d → scan ws bs n d x j o ≡ Missing j o
   unfolding find_in rows
-  scan-out k = rw (from_at ws n j h l, le-leb (depth_of (get_or ws j 0)) d k)
+  scan_out k = rw (from_at ws n j h l, le-leb (depth_of (get_or ws j 0)) d k)
 
   module _ (r : o + name_total (from ws n j) ≤ length bs) where
     name-at : length (take (nlen_of (get_or ws j 0)) (drop o bs)) ≡ nlen_of (get_or ws j 0)
@@ -73,10 +73,10 @@ module _ (ws : List ℕ) (bs : Bytes) (n d : ℕ) (x : Bytes) (j o : ℕ) (h : n
             (key-less bs x o (nlen_of (get_or ws j 0)) f g (omega (arith, scan-room ws bs n j o h l r)) (omega (arith, e, s (not-false b z))))
         go false y z = scan-deeper i (λ u. eqb-false (depth_of (get_or ws j 0) - d) 1 y (omega (arith, u)))
 
-  pub scan-same : depth_of (get_or ws j 0) ≡ suc d → order_of (take (nlen_of (get_or ws j 0)) (drop o bs)) x ≡ Same → scan ws bs n d x j o ≡ Found j o
+  pub scan_same : depth_of (get_or ws j 0) ≡ suc d → order_of (take (nlen_of (get_or ws j 0)) (drop o bs)) x ≡ Same → scan ws bs n d x j o ≡ Found j o
   unfolding find_in rows
-  scan-same k m = rw (from_at ws n j h l, lt-leb (depth_of (get_or ws j 0)) d (omega arith), eq-eqb (depth_of (get_or ws j 0)) (suc d) k, m)
+  scan_same k m = rw (from_at ws n j h l, lt-leb (depth_of (get_or ws j 0)) d (omega arith), eq-eqb (depth_of (get_or ws j 0)) (suc d) k, m)
 
-  pub scan-more : depth_of (get_or ws j 0) ≡ suc d → order_of (take (nlen_of (get_or ws j 0)) (drop o bs)) x ≡ More → scan ws bs n d x j o ≡ Missing j o
+  pub scan_more : depth_of (get_or ws j 0) ≡ suc d → order_of (take (nlen_of (get_or ws j 0)) (drop o bs)) x ≡ More → scan ws bs n d x j o ≡ Missing j o
   unfolding find_in rows
-  scan-more k m = rw (from_at ws n j h l, lt-leb (depth_of (get_or ws j 0)) d (omega arith), eq-eqb (depth_of (get_or ws j 0)) (suc d) k, m)
+  scan_more k m = rw (from_at ws n j h l, lt-leb (depth_of (get_or ws j 0)) d (omega arith), eq-eqb (depth_of (get_or ws j 0)) (suc d) k, m)

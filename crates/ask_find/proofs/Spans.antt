@@ -30,10 +30,10 @@ module _ (ws : List ℕ) (n : ℕ) (h : n ≤ length ws) where
   unfolding span
   span-end d j l = rw (from_end_lem ws n j h l)
 
-  pub span-out : (d j : ℕ) → j < n → depth_of (get_or ws j 0) ≤ d → span d (from ws n j) ≡ 0
+  pub span_out : (d j : ℕ) → j < n → depth_of (get_or ws j 0) ≤ d → span d (from ws n j) ≡ 0
   unfolding span
-  span-out d j l k = rw (from_at ws n j h l, le-leb (depth_of (get_or ws j 0)) d k)
+  span_out d j l k = rw (from_at ws n j h l, le-leb (depth_of (get_or ws j 0)) d k)
 
-  pub span-on : (d j : ℕ) → j < n → d < depth_of (get_or ws j 0) → span d (from ws n j) ≡ suc (span d (from ws n (suc j)))
+  pub span_on : (d j : ℕ) → j < n → d < depth_of (get_or ws j 0) → span d (from ws n j) ≡ suc (span d (from ws n (suc j)))
   unfolding span
-  span-on d j l k = rw (from_at ws n j h l, lt-leb (depth_of (get_or ws j 0)) d k)
+  span_on d j l k = rw (from_at ws n j h l, lt-leb (depth_of (get_or ws j 0)) d k)

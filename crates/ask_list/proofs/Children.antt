@@ -18,11 +18,11 @@ use Rattle.model.proofs.Entries.{behind-self}
 use Rattle.layout.specs.Rows.{Row, path_by, path_of, tree_from}
 use Rattle.layout.specs.Lawful.{walk_ok, rows_ok}
 use Rattle.layout.proofs.Rising.{Follows, aside, below, next_length, rise_next}
-use Rattle.layout.proofs.Roots.{root-of}
-use Rattle.layout.proofs.Walks.{at-rises, rest_ok}
+use Rattle.layout.proofs.Roots.{root_of}
+use Rattle.layout.proofs.Walks.{at_rises, rest_ok}
 use Rattle.layout.specs.Parts.{path_after}
 use Rattle.layout.proofs.Edited.Parted.{tree_both}
-use Rattle.layout.proofs.Edited.Removing.{walk-follows, walk-rises, next-keeps, Beyond, beyond-rises, beyond-behind, rises-behind, beyond-aside}
+use Rattle.layout.proofs.Edited.Removing.{walk-follows, walk-rises, next_keeps, Beyond, beyond-rises, beyond-behind, rises-behind, beyond-aside}
 use Rattle.layout.proofs.Edited.Blocked.{at_seam}
 use Rattle.ask_list.specs.Listed.{entries_in, shown}
 
@@ -70,33 +70,33 @@ beyond-here q p d x k h l (below e) = absurd (omega (arith, l, sym (length-take 
 module _ (kind : ℕ → ℕ) (n : ℕ) (f : ℕ → Node) where
   -- ---- before and beyond
 
-  front-none : (p : Path) (s : Row) (d : Bool) (a : List Row) (row : Row) (b : List Row) → T (walk_ok kind n (path_of p s) d (a ++ (row ∷ b)))
+  front_none : (p : Path) (s : Row) (d : Bool) (a : List Row) (row : Row) (b : List Row) → T (walk_ok kind n (path_of p s) d (a ++ (row ∷ b)))
       → under (path_of (path_after p (s ∷ a)) row) (tree_from f p (s ∷ a)) ≡ []
   unfolding tree_from path_after under
-  front-none p s d [] row b t =
+  front_none p s d [] row b t =
       let o = path_of (path_of p s) row in
-      passed o (path_of p s) (f s.slot) [] (rises-behind o (path_of p s) (at-rises kind n (path_of p s) d (row ∷ b) t o row (at_seam (path_of p s) [] row b)))
-  front-none p s d (u ∷ a) row b t =
+      passed o (path_of p s) (f s.slot) [] (rises-behind o (path_of p s) (at_rises kind n (path_of p s) d (row ∷ b) t o row (at_seam (path_of p s) [] row b)))
+  front_none p s d (u ∷ a) row b t =
       let o = path_of (path_after (path_of p s) (u ∷ a)) row in
       passed o (path_of p s) (f s.slot) (tree_from f (path_of p s) (u ∷ a))
-      (rises-behind o (path_of p s) (at-rises kind n (path_of p s) d (u ∷ a ++ (row ∷ b)) t o row (at_seam (path_of p s) (u ∷ a) row b)))
-      ∙ front-none (path_of p s) u (eqb (kind u.slot) 1) a row b (rest_ok kind n (path_of p s) d u (a ++ (row ∷ b)) t)
+      (rises-behind o (path_of p s) (at_rises kind n (path_of p s) d (u ∷ a ++ (row ∷ b)) t o row (at_seam (path_of p s) (u ∷ a) row b)))
+      ∙ front_none (path_of p s) u (eqb (kind u.slot) 1) a row b (rest_ok kind n (path_of p s) d u (a ++ (row ∷ b)) t)
 
-  beyond-none : (q p : Path) (d : Bool) (rs : List Row) → Beyond q p → T (walk_ok kind n p d rs) → under q (tree_from f p rs) ≡ []
+  beyond_none : (q p : Path) (d : Bool) (rs : List Row) → Beyond q p → T (walk_ok kind n p d rs) → under q (tree_from f p rs) ≡ []
   unfolding tree_from under
-  beyond-none q p d [] h t = refl
-  beyond-none q p d (r ∷ rs) h t =
+  beyond_none q p d [] h t = refl
+  beyond_none q p d (r ∷ rs) h t =
       let g : Beyond q (path_of p r) = beyond-rises q p (path_of p r) h (rise_next p d r.name r.depth (walk-rises kind n p d r rs t)) in
       passed q (path_of p r) (f r.slot) (tree_from f (path_of p r) rs) (beyond-behind q (path_of p r) g)
-      ∙ beyond-none q (path_of p r) (eqb (kind r.slot) 1) rs g (rest_ok kind n p d r rs t)
+      ∙ beyond_none q (path_of p r) (eqb (kind r.slot) 1) rs g (rest_ok kind n p d r rs t)
 
   -- all that stand before
-  before-none : (a : List Row) (row : Row) (b : List Row) → T (rows_ok kind n (a ++ (row ∷ b))) → under (path_of (path_after [] a) row) (tree_from f [] a) ≡ []
+  before_none : (a : List Row) (row : Row) (b : List Row) → T (rows_ok kind n (a ++ (row ∷ b))) → under (path_of (path_after [] a) row) (tree_from f [] a) ≡ []
   unfolding tree_from under
-  before-none [] row b t = refl
-  before-none (s ∷ a) row b t =
-      let o = root-of kind n s (a ++ (row ∷ b)) t in
-      front-none [] s true a row b (subst (λ (p : Path). T (walk_ok kind n p true (a ++ (row ∷ b)))) (sym o.path) o.rest)
+  before_none [] row b t = refl
+  before_none (s ∷ a) row b t =
+      let o = root_of kind n s (a ++ (row ∷ b)) t in
+      front_none [] s true a row b (subst (λ (p : Path). T (walk_ok kind n p true (a ++ (row ∷ b)))) (sym o.path) o.rest)
 
   -- ---- below
 
@@ -118,7 +118,7 @@ module _ (kind : ℕ → ℕ) (n : ℕ) (f : ℕ → Node) where
         rest = entries_in m rs
 
         keeps : m < r.depth → take m o ≡ q
-        keeps l = next-keeps kind n m p d r r.depth refl l (walk-follows kind n p d r rs t) ∙ h
+        keeps l = next_keeps kind n m p d r r.depth refl l (walk-follows kind n p d r rs t) ∙ h
 
         two : m < r.depth → (b : Bool) → eqb r.depth (suc m) ≡ b → children world (under q ((o, f r.slot) ∷ tree_from f o rs)) ≡ shown world f (keep_if b r rest)
         two l true e =
@@ -137,7 +137,7 @@ module _ (kind : ℕ → ℕ) (n : ℕ) (f : ℕ → Node) where
             let g : Beyond q o = beyond-here q p d r.name r.depth h (leb-true r.depth m e) (walk-rises kind n p d r rs t) in
             ap (children world)
             (passed q o (f r.slot) (tree_from f o rs) (beyond-behind q o g)
-            ∙ beyond-none q o (eqb (kind r.slot) 1) rs g (rest_ok kind n p d r rs t))
+            ∙ beyond_none q o (eqb (kind r.slot) 1) rs g (rest_ok kind n p d r rs t))
         one false e = two (leb-false r.depth m e) (eqb r.depth (suc m)) refl
 
     scan : (p : Path) (d : Bool) (rs : List Row) → take (length q) p ≡ q → T (walk_ok kind n p d rs) → children world (under q (tree_from f p rs)) ≡ shown world f (entries_in (length q) rs)
@@ -148,13 +148,13 @@ module _ (kind : ℕ → ℕ) (n : ℕ) (f : ℕ → Node) where
   -- ---- all entries
 
   -- what stands right below the entry behind the first a
-  pub children-at : (world : World) (a : List Row) (row : Row) (b : List Row) (d : Bool) → T (rows_ok kind n (a ++ (row ∷ b))) → T (walk_ok kind n (path_of (path_after [] a) row) d b)
+  pub children_at : (world : World) (a : List Row) (row : Row) (b : List Row) (d : Bool) → T (rows_ok kind n (a ++ (row ∷ b))) → T (walk_ok kind n (path_of (path_after [] a) row) d b)
       → children world (under (path_of (path_after [] a) row) (tree_from f [] (a ++ (row ∷ b)))) ≡ shown world f (entries_in (length (path_of (path_after [] a) row)) b)
   unfolding tree_from
-  children-at world a row b d t w =
+  children_at world a row b d t w =
       let q = path_of (path_after [] a) row in
       let z = tree_from f q b in
       ap (λ (u : Entries). children world (under q u)) (tree_both f [] a (row ∷ b))
-      ∙ (ap (children world) (under_both q (tree_from f [] a) ((q, f row.slot) ∷ z) ∙ ap (λ (u : Entries). u ++ under q ((q, f row.slot) ∷ z)) (before-none a row b t))
+      ∙ (ap (children world) (under_both q (tree_from f [] a) ((q, f row.slot) ∷ z) ∙ ap (λ (u : Entries). u ++ under q ((q, f row.slot) ∷ z)) (before_none a row b t))
       ∙ (entered world q q [] (f row.slot) z (ap (behind q) (sym (append-nil q)) ∙ behind-self q [])
       ∙ scan world q q d b (take-length q) w))

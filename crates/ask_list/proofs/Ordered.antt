@@ -19,7 +19,7 @@ use Rattle.layout.specs.Lawful.{walk_ok}
 use Rattle.layout.proofs.Rising.{before_both, Follows, aside, below, next_length}
 use Rattle.layout.proofs.Walks.{rest_ok}
 use Rattle.layout.proofs.Edited.Blocked.{get_d_last}
-use Rattle.layout.proofs.Edited.Removing.{walk-follows, walk-rises, next-keeps}
+use Rattle.layout.proofs.Edited.Removing.{walk-follows, walk-rises, next_keeps}
 use Rattle.ask_list.specs.Listed.{entries_in, shown}
 
 -- ---- names that rise
@@ -67,11 +67,11 @@ low p d x k (below b) = omega arith
 
 module _ (kind : ℕ → ℕ) (n : ℕ) (world : World) (f : ℕ → Node) where
   -- behind an entry of a directory of m names
-  chain-on : (m : ℕ) (p : Path) (d : Bool) (r : Row) (rs : List Row) → m < length p → T (walk_ok kind n p d (r ∷ rs))
+  chain_on : (m : ℕ) (p : Path) (d : Bool) (r : Row) (rs : List Row) → m < length p → T (walk_ok kind n p d (r ∷ rs))
       → (m < length (path_of p r) → Chain (get_or (path_of p r) m []) (shown world f (entries_in m rs)))
       → Chain (get_or p m []) (shown world f (entries_in m (r ∷ rs)))
   unfolding entries_in shown
-  chain-on m p d r rs h t ih = one (leb r.depth m) refl
+  chain_on m p d r rs h t ih = one (leb r.depth m) refl
     where
       long : length (path_of p r) ≡ r.depth
       long = next_length p d r.name r.depth (walk-rises kind n p d r rs t)
@@ -83,7 +83,7 @@ module _ (kind : ℕ → ℕ) (n : ℕ) (world : World) (f : ℕ → Node) where
           chain-child (get_or p m []) r.name (stat_of world (f r.slot)) (shown world f (entries_in m rs)) (greater p d r.name m r.depth g h (walk-rises kind n p d r rs t))
           (subst (λ (x : Name). Chain x (shown world f (entries_in m rs))) z (ih (omega (arith, long, l))))
       two l false e =
-          let k = next-keeps kind n (suc m) p d r r.depth refl (omega (arith, l, eqb-false r.depth (suc m) e)) (walk-follows kind n p d r rs t) in
+          let k = next_keeps kind n (suc m) p d r r.depth refl (omega (arith, l, eqb-false r.depth (suc m) e)) (walk-follows kind n p d r rs t) in
           let z : get_or (path_of p r) m [] ≡ get_or p m [] =
           sym (get_or-take (suc m) (path_of p r) m [] (omega arith)) ∙ (ap (λ (o : Path). get_or o m []) k ∙ get_or-take (suc m) p m [] (omega arith)) in
           subst (λ (x : Name). Chain x (shown world f (entries_in m rs))) z (ih (omega (arith, long, l)))
@@ -92,10 +92,10 @@ module _ (kind : ℕ → ℕ) (n : ℕ) (world : World) (f : ℕ → Node) where
       one true e = tt
       one false e = two (leb-false r.depth m e) (eqb r.depth (suc m)) refl
 
-  chain-of : (m : ℕ) (p : Path) (d : Bool) (rs : List Row) → m < length p → T (walk_ok kind n p d rs) → Chain (get_or p m []) (shown world f (entries_in m rs))
+  chain_of : (m : ℕ) (p : Path) (d : Bool) (rs : List Row) → m < length p → T (walk_ok kind n p d rs) → Chain (get_or p m []) (shown world f (entries_in m rs))
   unfolding entries_in shown
-  chain-of m p d [] h t = tt
-  chain-of m p d (r ∷ rs) h t = chain-on m p d r rs h t (λ g. chain-of m (path_of p r) (eqb (kind r.slot) 1) rs g (rest_ok kind n p d r rs t))
+  chain_of m p d [] h t = tt
+  chain_of m p d (r ∷ rs) h t = chain_on m p d r rs h t (λ g. chain_of m (path_of p r) (eqb (kind r.slot) 1) rs g (rest_ok kind n p d r rs t))
 
   -- behind the directory
   pub in_order_lem : (p : Path) (d : Bool) (rs : List Row) → T (walk_ok kind n p d rs) → in_order (shown world f (entries_in (length p) rs)) ≡ shown world f (entries_in (length p) rs)
@@ -113,7 +113,7 @@ module _ (kind : ℕ → ℕ) (n : ℕ) (world : World) (f : ℕ → Node) where
       chained g =
           let z : get_or (path_of p r) m [] ≡ r.name = ap (λ (k : ℕ). get_or (path_by k p r.name) m []) g ∙ get_d_last m p r.name (omega arith) in
           subst (λ (x : Name). Chain x rest) z
-          (chain-of m (path_of p r) (eqb (kind r.slot) 1) rs (omega (arith, g, next_length p d r.name r.depth (walk-rises kind n p d r rs t))) (rest_ok kind n p d r rs t))
+          (chain_of m (path_of p r) (eqb (kind r.slot) 1) rs (omega (arith, g, next_length p d r.name r.depth (walk-rises kind n p d r rs t))) (rest_ok kind n p d r rs t))
 
       two : m < r.depth → (b : Bool) → eqb r.depth (suc m) ≡ b → in_order (shown world f (keep_if b r (entries_in m rs))) ≡ shown world f (keep_if b r (entries_in m rs))
       two l true e = child-order r.name (stat_of world (f r.slot)) rest (chained (eqb-true r.depth (suc m) e))

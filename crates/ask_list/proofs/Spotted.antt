@@ -23,7 +23,7 @@ use Rattle.layout.specs.Store.{Store, count, rows_of, kind_at, state}
 use Rattle.layout.specs.Lawful.{follows, walk_ok, Lawful}
 use Rattle.layout.specs.Parts.{dir_after}
 use Rattle.layout.proofs.Named.{total-append}
-use Rattle.layout.proofs.Edited.Removing.{walk-follows, next-keeps}
+use Rattle.layout.proofs.Edited.Removing.{walk-follows, next_keeps}
 use Rattle.ask_find.specs.declared.Spot.{Spot}
 use Rattle.ask_find.specs.Paths.{slot_at, row_at, path_at}
 use Rattle.ask_find.specs.Spots.{At}
@@ -46,8 +46,8 @@ module _ (st : Store) (l : Lawful st) where
   listing-spot s p a = ap (listing_of st) (sym a.path) ∙ listing-at st l s.at a.within
 
   -- by the records that were read
-  pub listing-by : (ws : List ℕ) → st.records ≡ ws → (s : Spot) (p : Path) → At st s p → listing_of st p ≡ listed_from st (depth_of (get_or ws s.at 0)) (s.at + 1)
-  listing-by ws e s p a = listing-spot s p a ∙ ap (λ (us : List ℕ). listed_from st (depth_of (get_or us s.at 0)) (s.at + 1)) e
+  pub listing_by : (ws : List ℕ) → st.records ≡ ws → (s : Spot) (p : Path) → At st s p → listing_of st p ≡ listed_from st (depth_of (get_or ws s.at 0)) (s.at + 1)
+  listing_by ws e s p a = listing-spot s p a ∙ ap (λ (us : List ℕ). listed_from st (depth_of (get_or us s.at 0)) (s.at + 1)) e
 
   pub spot-depth : (s : Spot) (p : Path) → At st s p → depth_of (get_or st.records s.at 0) ≡ length p
   spot-depth s p a = sym (path-depth st l s.at a.within) ∙ ap length a.path
@@ -67,7 +67,7 @@ module _ (st : Store) (l : Lawful st) where
     pub keeps : (m : ℕ) → m < depth_of (get_or st.records (suc k) 0) → take m (path_at st (suc k)) ≡ take m (path_at st k)
     keeps m b =
         ap (take m) (path_next st l (suc k) h)
-        ∙ next-keeps (kind_at st) (length st.heads) m (path_at st k) (dir_after (kind_at st) false (take (suc k) (rows_of st))) row row.depth refl b after
+        ∙ next_keeps (kind_at st) (length st.heads) m (path_at st k) (dir_after (kind_at st) false (take (suc k) (rows_of st))) row row.depth refl b after
 
     -- an entry has the directory's path and its name
     pub entry-path : (m : ℕ) → depth_of (get_or st.records (suc k) 0) ≡ suc m → path_at st (suc k) ≡ take m (path_at st k) ++ (row.name ∷ [])
@@ -90,15 +90,15 @@ module _ (st : Store) (l : Lawful st) where
         }
 
   -- the same before record j
-  pub keeps-at : (j : ℕ) → 0 < j → j < count st → (m : ℕ) → m < depth_of (get_or st.records j 0) → take m (path_at st (j + 1 - 1)) ≡ take m (path_at st (j - 1))
-  keeps-at j b h m d =
+  pub keeps_at : (j : ℕ) → 0 < j → j < count st → (m : ℕ) → m < depth_of (get_or st.records j 0) → take m (path_at st (j + 1 - 1)) ≡ take m (path_at st (j - 1))
+  keeps_at j b h m d =
       let y : j ≡ suc (j - 1) = omega (arith, b) in
       let z : j + 1 - 1 ≡ suc (j - 1) = omega (arith, b) in
       ap (λ (i : ℕ). take m (path_at st i)) z ∙ keeps (j - 1) (omega (arith, h, y)) m (omega (arith, d, ap (λ (i : ℕ). depth_of (get_or st.records i 0)) y))
 
-  pub leads-at : (j : ℕ) → 0 < j → j < count st → (p : Path) (o : ℕ) → take (length p) (path_at st (j - 1)) ≡ p → depth_of (get_or st.records j 0) ≡ suc (length p)
+  pub leads_at : (j : ℕ) → 0 < j → j < count st → (p : Path) (o : ℕ) → take (length p) (path_at st (j - 1)) ≡ p → depth_of (get_or st.records j 0) ≡ suc (length p)
       → o ≡ name_total (take j st.records) → (u : List (Name × Stat)) → u ≡ listed_from st (length p) j → Leads st p (record { at = j; off = o }) u
-  leads-at j b h p o t e f u z =
+  leads_at j b h p o t e f u z =
       let y : j ≡ suc (j - 1) = omega (arith, b) in
       subst (λ (i : ℕ). Leads st p (record { at = i; off = o }) u) (sym y)
       (leads (j - 1) (omega (arith, h, y)) p o t (ap (λ (i : ℕ). depth_of (get_or st.records i 0)) (sym y) ∙ e) (f ∙ ap (λ (i : ℕ). name_total (take i st.records)) y) u
@@ -125,11 +125,11 @@ module _ (ws : List ℕ) (bs : Bytes) (n : ℕ) (s : Spot) (o d : ℕ) (f : o �
   abbrev text : List ℕ → Bytes → ℕ → Bytes
   text us cs k = names_in d (take (k - (s.at + 1)) (drop (s.at + 1) us)) (take (length cs - o) (drop o cs))
 
-  offset-in : (st : Store) → st.records ≡ ws → o ≡ name_total (take (s.at + 1) st.records)
-  offset-in st e = f ∙ ap (λ (us : List ℕ). name_total (take (s.at + 1) us)) (sym e)
+  offset_in : (st : Store) → st.records ≡ ws → o ≡ name_total (take (s.at + 1) st.records)
+  offset_in st e = f ∙ ap (λ (us : List ℕ). name_total (take (s.at + 1) us)) (sym e)
 
-  depth-in : (st : Store) → st.records ≡ ws → d ≡ depth_of (get_or st.records s.at 0)
-  depth-in st e = g ∙ ap (λ (us : List ℕ). depth_of (get_or us s.at 0)) (sym e)
+  depth_in : (st : Store) → st.records ≡ ws → d ≡ depth_of (get_or st.records s.at 0)
+  depth_in st e = g ∙ ap (λ (us : List ℕ). depth_of (get_or us s.at 0)) (sym e)
 
   pub put-ready : (out : Bytes) → Roomy ws bs n s out → PutReady ws bs n s.at o d out
   put-ready out r =
@@ -141,15 +141,15 @@ module _ (ws : List ℕ) (bs : Bytes) (n : ℕ) (s : Spot) (o d : ℕ) (f : o �
       let z : length (text st.records st.bytes (count st)) ≡ length (text ws bs n) = λ j. length (text (e j) (h.bytes j) (h.counted j)) in
       let x : name_total (take (count st - (s.at + 1)) (drop (s.at + 1) st.records)) ≡ name_total (take (n - (s.at + 1)) (drop (s.at + 1) ws)) = λ j. name_total (take (h.counted j - (s.at + 1)) (drop (s.at + 1) (e j))) in
       let y : length (take (length st.bytes - o) (drop o st.bytes)) ≡ length (take (length bs - o) (drop o bs)) = ap (λ (cs : Bytes). length (take (length cs - o) (drop o cs))) h.bytes in
-      let w = ap length (ap (λ (p : Path). names_text (listing_of st p)) (sym a.path) ∙ behind-text st l s.at a.within o (offset-in st e) d (depth-in st e)) in
+      let w = ap length (ap (λ (p : Path). names_text (listing_of st p)) (sym a.path) ∙ behind-text st l s.at a.within o (offset_in st e) d (depth_in st e)) in
       record {
-        low = omega (arith, offset-low st l s.at a.within o (offset-in st e), ap length h.bytes);
-        room = omega (arith, behind-room st l s.at a.within o (offset-in st e), x, y);
+        low = omega (arith, offset-low st l s.at a.within o (offset_in st e), ap length h.bytes);
+        room = omega (arith, behind-room st l s.at a.within o (offset_in st e), x, y);
         fits = omega (arith, r.fits, w, z);
       }
 
   pub put-told : (out new : Bytes) → new ≡ in_front (text ws bs n) out → (st : Store) → st.records ≡ ws → count st ≡ n → Lawful st → (p : Path) → At st s p → st.bytes ≡ bs
       → new ≡ in_front (names_text (listing_of st p)) out
   put-told out new w st e c l p a b =
-      behind-put st l s.at a.within o (offset-in st e) d (depth-in st e) out new (w ∙ sym (λ j. in_front (text (e j) (b j) (c j)) out))
+      behind-put st l s.at a.within o (offset_in st e) d (depth_in st e) out new (w ∙ sym (λ j. in_front (text (e j) (b j) (c j)) out))
       ∙ ap (λ (q : Path). in_front (names_text (listing_of st q)) out) a.path

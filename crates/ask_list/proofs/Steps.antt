@@ -19,7 +19,7 @@ use Rattle.layout.specs.Fields.{depth_of, nlen_of}
 use Rattle.layout.specs.Rows.{Row, name_total, path_of, tree_from}
 use Rattle.layout.specs.Store.{Store, count, live, rows_of, meta_at, bytes_at, kind_at, node_at, state}
 use Rattle.layout.specs.Lawful.{walk_ok, rows_ok, Lawful}
-use Rattle.layout.proofs.Entered.{has-file}
+use Rattle.layout.proofs.Entered.{has_file}
 use Rattle.layout.proofs.Named.{total-split}
 use Rattle.layout.proofs.Roots.{all_slots}
 use Rattle.layout.proofs.Walks.{SlotsIn}
@@ -28,7 +28,7 @@ use Rattle.ask_find.specs.Paths.{slot_at, row_at, path_at}
 use Rattle.ask_find.proofs.Reading.{names_at, name-length}
 use Rattle.ask_find.proofs.Records.{rows_long, walk-behind, rest_at, parts_at, path_next, slot-low, path-depth}
 use Rattle.ask_list.specs.Listed.{listing_at, entries_in, shown, row_names, listed_from}
-use Rattle.ask_list.proofs.Children.{children-at}
+use Rattle.ask_list.proofs.Children.{children_at}
 use Rattle.ask_list.proofs.Ordered.{in_order_lem}
 
 -- no name, no text
@@ -75,7 +75,7 @@ module _ (st : Store) (l : Lawful st) where
       let d = dir_after (kind_at st) false (take (suc i) (rows_of st)) in
       let w : T (walk_ok (kind_at st) n q d b) = walk-behind st l i in
       let e : o ≡ q = sym (path_next st l i h) in
-      let c = children-at (kind_at st) n (node_at st) world (take i (rows_of st)) (row_at st i) b d
+      let c = children_at (kind_at st) n (node_at st) world (take i (rows_of st)) (row_at st i) b d
       (subst (λ (rs : List Row). T (rows_ok (kind_at st) n rs)) (parts_at st l i h) l.entries)
       (subst (λ (p : Path). T (walk_ok (kind_at st) n p d b)) (sym e) w) in
       let g : children world (under q (state st).tree) ≡ shown world (node_at st) (entries_in (length q) b) =
@@ -93,7 +93,7 @@ module _ (st : Store) (l : Lawful st) where
   stat-known k h = one (eqb (kind_at st k) 1)
     where
       two : (b : Bool) → eqb (kind_at st k) 2 ≡ b → (s : Stat) × (stat_of (world_of (state st)) (cond b (file k) (link (meta_at st k) (bytes_at st k))) ≡ some s)
-      two true e = (record { kind = aFile; size = length (bytes_at st k); meta = meta_at st k }, rw (has-file st l k h (eqb-true (kind_at st k) 2 e)))
+      two true e = (record { kind = aFile; size = length (bytes_at st k); meta = meta_at st k }, rw (has_file st l k h (eqb-true (kind_at st k) 2 e)))
       two false e = (record { kind = a_link; size = 0; meta = meta_at st k }, refl)
 
       one : (b : Bool) → (s : Stat) × (stat_of (world_of (state st)) (cond b (dir (meta_at st k)) (cond (eqb (kind_at st k) 2) (file k) (link (meta_at st k) (bytes_at st k)))) ≡ some s)
@@ -147,13 +147,13 @@ module _ (st : Store) (l : Lawful st) where
       pub count-on : depth_of word ≡ suc d → length (listed_from st d j) ≡ 1 + length (listed_from st d (j + 1))
       count-on k = ap length (listed-one k).1 ∙ omega arith
 
-      text-on : depth_of word ≡ suc d → names_text (listed_from st d j) ≡ (row_at st j).name ++ (0 ∷ names_text (listed_from st d (j + 1)))
+      text_on : depth_of word ≡ suc d → names_text (listed_from st d j) ≡ (row_at st j).name ++ (0 ∷ names_text (listed_from st d (j + 1)))
       unfolding names_text
-      text-on k = ap names_text (listed-one k).1
+      text_on k = ap names_text (listed-one k).1
 
       pub length-on : depth_of word ≡ suc d → length (names_text (listed_from st d j)) ≡ nlen_of word + 1 + length (names_text (listed_from st d (j + 1)))
       length-on k =
-          ap length (text-on k) ∙ (length-append (row_at st j).name (0 ∷ names_text (listed_from st d (j + 1))) ∙ omega (arith, name-long))
+          ap length (text_on k) ∙ (length-append (row_at st j).name (0 ∷ names_text (listed_from st d (j + 1))) ∙ omega (arith, name-long))
 
   -- ---- the text
 

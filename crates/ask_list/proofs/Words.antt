@@ -48,9 +48,9 @@ module _ (ws : List ℕ) (bs : Bytes) (d j o : ℕ) where
     unfolding rows entries_in
     text-past k m = rw (next, lt-leb (depth_of word) d k, ne_eqb (depth_of word) (suc d) m, drop-drop)
 
-    pub text-on : depth_of word ≡ suc d → text_from ws bs d j o ≡ name_from ws bs j o ++ (0 ∷ text_from ws bs d (j + 1) (o + nlen_of word))
+    pub text_on : depth_of word ≡ suc d → text_from ws bs d j o ≡ name_from ws bs j o ++ (0 ∷ text_from ws bs d (j + 1) (o + nlen_of word))
     unfolding rows entries_in row_names
-    text-on k = rw (next, lt-leb (depth_of word) d (omega (arith, k)), eq-eqb (depth_of word) (suc d) k, drop-drop)
+    text_on k = rw (next, lt-leb (depth_of word) d (omega (arith, k)), eq-eqb (depth_of word) (suc d) k, drop-drop)
 
     -- its name stands within the bytes, and so do those behind it
     pub text-room : o + name_total (drop j ws) ≤ length bs → o + nlen_of word + name_total (drop (j + 1) ws) ≤ length bs

@@ -16,7 +16,7 @@ use Rattle.layout.specs.Fields.{depth_of, slot_of, kind_of}
 use Rattle.layout.specs.Rows.{name_total}
 use Rattle.ask_find.specs.Spans.{span}
 use Rattle.ask_find.proofs.Reading.{from, from_at, from_end_lem}
-use Rattle.ask_find.proofs.Spans.{pick_n-le, span_fits, span-on}
+use Rattle.ask_find.proofs.Spans.{pick_n-le, span_fits, span_on}
 use Rattle.ask_used.specs.Totals.{head_of, Slotted, entry_bytes, below, held_total, link_total}
 
 -- a name has at most 255 bytes, and a slot less than 2^24
@@ -70,8 +70,8 @@ links-le hs (w ∷ ws) = omega (arith, links-le hs ws, cond-le (eqb (kind_of (he
 
 module _ (ws : List ℕ) (n : ℕ) (h : n ≤ length ws) where
   -- the slot of a record is one of the slots
-  pub slot-in : (hs : List ℕ) (j : ℕ) → Slotted hs (take n ws) → j < n → slot_of (get_or ws j 0) < length hs
-  slot-in hs j s l = rw (get_or-take n ws j 0 l) at (s j (omega (arith, length-take-le n ws h)))
+  pub slot_in : (hs : List ℕ) (j : ℕ) → Slotted hs (take n ws) → j < n → slot_of (get_or ws j 0) < length hs
+  slot_in hs j s l = rw (get_or-take n ws j 0 l) at (s j (omega (arith, length-take-le n ws h)))
 
   module _ (hs : List ℕ) where
     -- the bytes of the entry at j with all below it, and the record behind them
@@ -100,7 +100,7 @@ module _ (ws : List ℕ) (n : ℕ) (h : n ≤ length ws) where
         × (j + span d (from ws n j) ≡ j + 1 + span d (from ws n (j + 1)))
     unfolding below
     next-on d j l k =
-        let b : span d (from ws n j) ≡ suc (span d (from ws n (j + 1))) = rw (add-one j) (span-on ws n h d j l k) in
+        let b : span d (from ws n j) ≡ suc (span d (from ws n (j + 1))) = rw (add-one j) (span_on ws n h d j l k) in
         (rw (from_at ws n j h l, lt-leb (depth_of (get_or ws j 0)) d k, add-one j), omega (arith, b))
 
     -- an entry with all below it, and then what is left

@@ -21,7 +21,7 @@ use Rattle.layout.specs.Rows.{Row, rows, name_total, path_of, tree_from}
 use Rattle.layout.specs.Store.{Store, count, holder, live, rows_of, kind_at, node_at, state}
 use Rattle.layout.specs.Lawful.{uses, held_from, Lawful}
 use Rattle.layout.proofs.Roots.{all_slots}
-use Rattle.layout.proofs.Slotted.{SlotOf, free, directory, named, removed, target, slot-of, dir_at, file_at, link_at}
+use Rattle.layout.proofs.Slotted.{SlotOf, free, directory, named, removed, target, slot-of, dir_at, file_at_lem, link_at}
 use Rattle.layout.proofs.Sums.{sum_from, sum_same, sum_both, sum_rows, sum_rows_lem}
 use Rattle.layout.proofs.Used.{bytes-used, total-sum}
 use Rattle.layout.proofs.Walks.{SlotsIn}
@@ -43,23 +43,23 @@ held-sum hs [] bs = refl
 held-sum hs (w ∷ ws) bs = ap (λ (m : ℕ). len_of (head_of hs w) + m) (held-sum hs ws (drop (nlen_of w) bs))
 
 module _ (st : Store) (l : Lawful st) where
-  slots-in : SlotsIn (length st.heads) (rows_of st)
-  slots-in = all_slots (kind_at st) (length st.heads) (rows_of st) l.entries
+  slots_in : SlotsIn (length st.heads) (rows_of st)
+  slots_in = all_slots (kind_at st) (length st.heads) (rows_of st) l.entries
 
   pub within : Within (length st.heads) (live st)
-  within = words_within (length st.heads) (live st) st.bytes slots-in
+  within = words_within (length st.heads) (live st) st.bytes slots_in
 
   once : (k : ℕ) → k < length st.heads → uses_in k (live st) ≤ 1
   once k h = subst (λ (n : ℕ). n ≤ 1) (uses-rows k (live st) st.bytes) (used-once st l k h)
 
   -- one slot: what a record has of it, or what none has
-  one-slot : (u g : ℕ) (hs : List ℕ) (k : ℕ) → u ≤ 1 → g ≡ len_of (get_or hs k 0) → u * g + cond (eqb u 0) (len_of (get_or hs k 0)) 0 ≡ g
-  one-slot zero g hs k h e = omega (arith, zero-mul g)
-  one-slot (suc zero) g hs k h e = omega (arith, one-mul g)
-  one-slot (suc (suc u)) g hs k h e = absurd (omega arith)
+  one_slot : (u g : ℕ) (hs : List ℕ) (k : ℕ) → u ≤ 1 → g ≡ len_of (get_or hs k 0) → u * g + cond (eqb u 0) (len_of (get_or hs k 0)) 0 ≡ g
+  one_slot zero g hs k h e = omega (arith, zero-mul g)
+  one_slot (suc zero) g hs k h e = omega (arith, one-mul g)
+  one_slot (suc (suc u)) g hs k h e = absurd (omega arith)
 
-  pub bytes-by : name_total (live st) + held_total st.heads (live st) + unnamed (live st) st.heads ≡ bytes_used (state st)
-  bytes-by =
+  pub bytes_by : name_total (live st) + held_total st.heads (live st) + unnamed (live st) st.heads ≡ bytes_used (state st)
+  bytes_by =
       let n = length st.heads in
       let g : ℕ → ℕ = λ k. len_of (get_or st.heads k 0) in
       let rs = rows_of st in
@@ -68,12 +68,12 @@ module _ (st : Store) (l : Lawful st) where
         arith,
         bytes-used st l,
         held-sum st.heads (live st) st.bytes,
-        sum_rows_lem g n rs slots-in,
+        sum_rows_lem g n rs slots_in,
         alone-sum u st.heads n 0,
         sum_both (λ i. uses i rs * g i) (alone u st.heads) n 0,
         total-sum st.heads,
         sum_same (λ i. uses i rs * g i + alone u st.heads i) g n 0
-            (λ i a b. ap (λ (m : ℕ). m * g i + alone u st.heads i) (uses-rows i (live st) st.bytes) ∙ one-slot (u i) (g i) st.heads i (once i (omega arith)) refl),
+            (λ i a b. ap (λ (m : ℕ). m * g i + alone u st.heads i) (uses-rows i (live st) st.bytes) ∙ one_slot (u i) (g i) st.heads i (once i (omega arith)) refl),
       )
 
   -- ---- no number is open: what no record has holds nothing
@@ -99,41 +99,41 @@ module _ (st : Store) (l : Lawful st) where
       by zero e (target x y z w) = absurd (omega (arith, e, z))
       by (suc u) e s = ap (λ (b : Bool). cond b (len_of (get_or st.heads k 0)) 0) (ne_eqb (suc u) 0 (λ z. absurd (omega (arith, z))))
 
-  alone-none : (n k : ℕ) → AllClosed st.words → k + n ≤ length st.heads → alone_from (λ i. uses_in i (live st)) st.heads n k ≡ 0
+  alone_none : (n k : ℕ) → AllClosed st.words → k + n ≤ length st.heads → alone_from (λ i. uses_in i (live st)) st.heads n k ≡ 0
   unfolding alone_from
-  alone-none zero k c h = refl
-  alone-none (suc n) k c h = omega (arith, none_left c k (omega arith), alone-none n (suc k) c (omega arith))
+  alone_none zero k c h = refl
+  alone_none (suc n) k c h = omega (arith, none_left c k (omega arith), alone_none n (suc k) c (omega arith))
 
   pub closed-bytes : AllClosed st.words → name_total (live st) + held_total st.heads (live st) ≡ bytes_used (state st)
-  closed-bytes c = omega (arith, bytes-by, alone-none (length st.heads) 0 c (omega arith))
+  closed-bytes c = omega (arith, bytes_by, alone_none (length st.heads) 0 c (omega arith))
 
   -- ---- links
 
   -- an entry is a link where its slot is one
-  link-one : (k : ℕ) → 1 ≤ uses k (rows_of st) → SlotOf st k → (p : Path) (t : Entries) → links_in ((p, node_at st k) ∷ t) ≡ cond (eqb (kind_at st k) 3) 1 0 + links_in t
+  link_one : (k : ℕ) → 1 ≤ uses k (rows_of st) → SlotOf st k → (p : Path) (t : Entries) → links_in ((p, node_at st k) ∷ t) ≡ cond (eqb (kind_at st k) 3) 1 0 + links_in t
   unfolding links_in
-  link-one k h (free e x u w) p t = absurd (omega arith)
-  link-one k h (directory e x u w) p t = rw (dir_at st k e, e) (omega arith)
-  link-one k h (named e u) p t = rw (file_at st k e, e) (omega arith)
-  link-one k h (removed e u w) p t = absurd (omega arith)
-  link-one k h (target e x u w) p t = rw (link_at st k e, e) (omega arith)
+  link_one k h (free e x u w) p t = absurd (omega arith)
+  link_one k h (directory e x u w) p t = rw (dir_at st k e, e) (omega arith)
+  link_one k h (named e u) p t = rw (file_at_lem st k e, e) (omega arith)
+  link_one k h (removed e u w) p t = absurd (omega arith)
+  link_one k h (target e x u w) p t = rw (link_at st k e, e) (omega arith)
 
-  no-links : links_in [] ≡ 0
+  no_links : links_in [] ≡ 0
   unfolding links_in
-  no-links = refl
+  no_links = refl
 
   -- the record of a slot in use
   abbrev Used : ℕ → Type 0
   Used k = (1 ≤ uses k (rows_of st)) × (k < length st.heads)
 
-  links-from : (p : Path) (ws : List ℕ) (bs : Bytes) → ((k : ℕ) → 1 ≤ uses_in k ws → Used k) → links_in (tree_from (node_at st) p (rows ws bs)) ≡ link_total st.heads ws
+  links_from : (p : Path) (ws : List ℕ) (bs : Bytes) → ((k : ℕ) → 1 ≤ uses_in k ws → Used k) → links_in (tree_from (node_at st) p (rows ws bs)) ≡ link_total st.heads ws
   unfolding tree_from rows link_total uses_in
-  links-from p [] bs h = no-links
-  links-from p (w ∷ ws) bs h =
+  links_from p [] bs h = no_links
+  links_from p (w ∷ ws) bs h =
       let u = h (slot_of w) (rw (eq-eqb (slot_of w) (slot_of w) refl) (omega arith)) in
       let r : Row = record { depth = depth_of w; name = take (nlen_of w) bs; slot = slot_of w } in
-      link-one (slot_of w) u.0 (slot-of st (slot_of w) (l.slots (slot_of w) u.1)) (path_of p r) (tree_from (node_at st) (path_of p r) (rows ws (drop (nlen_of w) bs)))
-      ∙ ap (λ (m : ℕ). cond (eqb (kind_at st (slot_of w)) 3) 1 0 + m) (links-from (path_of p (record { depth = depth_of w; name = take (nlen_of w) bs; slot = slot_of w })) ws (drop (nlen_of w) bs) (λ k v. h k (omega (arith, v))))
+      link_one (slot_of w) u.0 (slot-of st (slot_of w) (l.slots (slot_of w) u.1)) (path_of p r) (tree_from (node_at st) (path_of p r) (rows ws (drop (nlen_of w) bs)))
+      ∙ ap (λ (m : ℕ). cond (eqb (kind_at st (slot_of w)) 3) 1 0 + m) (links_from (path_of p (record { depth = depth_of w; name = take (nlen_of w) bs; slot = slot_of w })) ws (drop (nlen_of w) bs) (λ k v. h k (omega (arith, v))))
 
   low-slot : (ws : List ℕ) (k : ℕ) → Within (length st.heads) ws → 1 ≤ uses_in k ws → k < length st.heads
   unfolding uses_in
@@ -144,13 +144,13 @@ module _ (st : Store) (l : Lawful st) where
       go (yes e) ih = subst (λ (i : ℕ). i < length st.heads) e (h 0 (omega arith))
       go (no e) ih = ih (let z : ◌≡◌ {A = ℕ} (cond (eqb (slot_of w) k) 1 0) 0 = ap (λ (b : Bool). cond {A = ℕ} b 1 0) (ne_eqb (slot_of w) k e) in omega arith)
 
-  pub links-by : link_total st.heads (live st) ≡ links_in (state st).tree
-  links-by =
-      sym (links-from [] (live st) st.bytes
+  pub links_by : link_total st.heads (live st) ≡ links_in (state st).tree
+  links_by =
+      sym (links_from [] (live st) st.bytes
       (λ k u. (subst (λ (n : ℕ). 1 ≤ n) (sym (uses-rows k (live st) st.bytes)) u, low-slot (live st) k within u)))
 
-  pub once-all : (k : ℕ) → uses_in k (live st) ≤ 1
-  once-all k = go (uses_in k (live st)) refl
+  pub once_all : (k : ℕ) → uses_in k (live st) ≤ 1
+  once_all k = go (uses_in k (live st)) refl
     where
       go : (n : ℕ) → uses_in k (live st) ≡ n → uses_in k (live st) ≤ 1
       go zero e = omega arith
@@ -158,7 +158,7 @@ module _ (st : Store) (l : Lawful st) where
 
   -- the whole fits a word
   pub bytes_small : name_total (live st) + held_total st.heads (live st) + unnamed (live st) st.heads ≤ 1048576
-  bytes_small = omega (arith, bytes-by, bytes-used st l, l.space, l.byte_limit.1)
+  bytes_small = omega (arith, bytes_by, bytes-used st l, l.space, l.byte_limit.1)
 
 -- ---- by the slices
 
@@ -179,7 +179,7 @@ fine st l n rs hs c e f =
       few = omega (arith, l.counted, l.entry_limit.1);
       slots = within st l;
       heads = omega (arith, l.exact.heads, l.slotted, l.entry_limit.1);
-      once = once-all st l;
+      once = once_all st l;
       small = bytes_small st l;
     } in
     subst (λ (k : ℕ). Fine k rs hs) c (subst (λ (us : List ℕ). Fine (count st) us hs) e (subst (λ (gs : List ℕ). Fine (count st) st.records gs) f w))
@@ -193,7 +193,7 @@ module _ (ws rs hs : List ℕ) (st : Store) (e : st.words ≡ ws) (f : st.record
   used-closed c = tree_is ∙ closed-bytes st l (subst AllClosed (sym e) c)
 
   pub used_all : tree_bytes rs hs (get_or ws 2 0) + unnamed (take (get_or ws 2 0) rs) hs ≡ bytes_used (state st)
-  used_all = (λ j. tree_bytes (sym f j) (sym g j) (get_or (sym e j) 2 0) + unnamed (take (get_or (sym e j) 2 0) (sym f j)) (sym g j)) ∙ bytes-by st l
+  used_all = (λ j. tree_bytes (sym f j) (sym g j) (get_or (sym e j) 2 0) + unnamed (take (get_or (sym e j) 2 0) (sym f j)) (sym g j)) ∙ bytes_by st l
 
 pub links-told : (rs hs : List ℕ) (n : ℕ) (st : Store) → st.records ≡ rs → st.heads ≡ hs → count st ≡ n → Lawful st → link_total hs (take n rs) ≡ links_in (state st).tree
-links-told rs hs n st e f c l = (λ j. link_total (sym f j) (take (sym c j) (sym e j))) ∙ links-by st l
+links-told rs hs n st e f c l = (λ j. link_total (sym f j) (take (sym c j) (sym e j))) ∙ links_by st l

@@ -23,9 +23,9 @@ use Rattle.layout.specs.Store.{Store, lent, count, live, rows_of, holder, positi
 use Rattle.layout.specs.Lawful.{walk_ok, rows_ok, held_from, Lawful}
 use Rattle.layout.specs.Parts.{path_after, dir_after}
 use Rattle.layout.proofs.Named.{total-split}
-use Rattle.layout.proofs.Roots.{root-of}
-use Rattle.layout.proofs.Slotted.{SlotOf, free, directory, named, removed, target, dir_at, file_at, bytes-length}
-use Rattle.layout.proofs.Entered.{slot, has-file}
+use Rattle.layout.proofs.Roots.{root_of}
+use Rattle.layout.proofs.Slotted.{SlotOf, free, directory, named, removed, target, dir_at, file_at_lem, bytes-length}
+use Rattle.layout.proofs.Entered.{slot, has_file}
 use Rattle.layout.proofs.Edited.Removing.{walk-follows}
 use Rattle.layout.proofs.Edited.Taking.{one_deep}
 use Rattle.ask_find.specs.declared.Spot.{Spot}
@@ -86,13 +86,13 @@ module _ (st : Store) (l : Lawful st) (s : Spot) (p : Path) (a : At st s p) wher
       name-length st.bytes (name_total (take i (live st))) (nlen_of word)
       (omega (arith, total-split (live st) i, names_at st.records (count st) i (omega (arith, l.exact.records, l.counted)) a.within, l.space, l.exact.bytes))
 
-  name-is : (j : ℕ) → j ≡ i → name_length (path_at st j) ≡ length (row_at st j).name
+  name_is : (j : ℕ) → j ≡ i → name_length (path_at st j) ≡ length (row_at st j).name
   unfolding path_after name_length
-  name-is zero e =
+  name_is zero e =
       let h : 0 < count st = omega (arith, a.within) in
-      let o = root-of (kind_at st) (length st.heads) (row_at st 0) (drop 1 (rows_of st)) (subst (λ (rs : List Row). T (rows_ok (kind_at st) (length st.heads) rs)) (parts_at st l 0 h) l.entries) in
+      let o = root_of (kind_at st) (length st.heads) (row_at st 0) (drop 1 (rows_of st)) (subst (λ (rs : List Row). T (rows_ok (kind_at st) (length st.heads) rs)) (parts_at st l 0 h) l.entries) in
       ap name_length (path_next st l 0 h ∙ o.path) ∙ sym o.nameless
-  name-is (suc j) e =
+  name_is (suc j) e =
       let h : suc j < count st = omega (arith, a.within, e) in
       let r = row_at st (suc j) in
       let q = path_at st j in
@@ -113,8 +113,8 @@ module _ (st : Store) (l : Lawful st) (s : Spot) (p : Path) (a : At st s p) wher
     pub kind : kind_at st k ≡ 2
     pub slot : k ≡ j
 
-  file-is : (j : ℕ) → node_at st k ≡ file j → FileAt j
-  file-is j e = go (eqb (kind_at st k) 1) (eqb (kind_at st k) 2) refl e
+  file_is : (j : ℕ) → node_at st k ≡ file j → FileAt j
+  file_is j e = go (eqb (kind_at st k) 1) (eqb (kind_at st k) 2) refl e
     where
       go : (b c : Bool) → eqb (kind_at st k) 2 ≡ c → cond b (dir (meta_at st k)) (cond c (file k) (link (meta_at st k) (bytes_at st k))) ≡ file j → FileAt j
       go true c z y = absurd (let w : ◌≡◌ {A = ℕ} 0 1 = cc in omega arith)
@@ -146,8 +146,8 @@ module _ (st : Store) (l : Lawful st) (s : Spot) (p : Path) (a : At st s p) wher
       filed : kind_at st k ≡ 2 → cond h 0 z ≡ freed_by (state st).files (state st).opens (node_at st k)
       filed e =
           let b : h ≡ is_held (state st).opens k = g ∙ sym (held_is st 32 0 k) in
-          let c : z ≡ size_of (file_of (state st).files k) = f ∙ sym long ∙ sym (ap size_of (has-file st l k (slot-low st l i a.within) e)) in
-          (λ j. cond (b j) 0 (c j)) ∙ sym (ap (freed_by (state st).files (state st).opens) (file_at st k e))
+          let c : z ≡ size_of (file_of (state st).files k) = f ∙ sym long ∙ sym (ap size_of (has_file st l k (slot-low st l i a.within) e)) in
+          (λ j. cond (b j) 0 (c j)) ∙ sym (ap (freed_by (state st).files (state st).opens) (file_at_lem st k e))
 
       go : SlotOf st k → cond h 0 z ≡ freed_by (state st).files (state st).opens (node_at st k)
       go (free e x y w) = linked 0 e refl w
@@ -159,13 +159,13 @@ module _ (st : Store) (l : Lawful st) (s : Spot) (p : Path) (a : At st s p) wher
   pub weight_is : (n z : ℕ) (h : Bool) → n ≡ nlen_of word → z ≡ len_of (get_or st.heads k 0) → h ≡ held_from st 32 0 k → WeightIs st p (record { name = n; size = z; held = h })
   weight_is n z h e f g =
       record {
-        name = e ∙ sym name-long ∙ sym (name-is i refl) ∙ ap name_length a.path;
+        name = e ∙ sym name-long ∙ sym (name_is i refl) ∙ ap name_length a.path;
         contents = λ j c x y.
-            let w = file-is j (found (file j) x) in
-            let v = some_inj (sym (has-file st l k (slot-low st l i a.within) w.kind) ∙ ap (file_of (state st).files) w.slot ∙ y) in
+            let w = file_is j (found (file j) x) in
+            let v = some_inj (sym (has_file st l k (slot-low st l i a.within) w.kind) ∙ ap (file_of (state st).files) w.slot ∙ y) in
             f ∙ sym long ∙ ap (λ (u : File). length u.bytes) v;
         target = λ m t x. f ∙ sym long ∙ ap length (link_is m t (found (link m t) x));
-        held = λ j x. g ∙ sym (held_is st 32 0 k) ∙ ap (is_held (state st).opens) (file-is j (found (file j) x)).slot;
+        held = λ j x. g ∙ sym (held_is st 32 0 k) ∙ ap (is_held (state st).opens) (file_is j (found (file j) x)).slot;
         freed = λ m x. freed-by z h f g ∙ ap (freed_by (state st).files (state st).opens) (found m x);
       }
 

@@ -25,7 +25,7 @@ use Rattle.slots.proofs.Contents.{length-contents}
 use Rattle.slots.proofs.Totals.{total-set}
 use Rattle.layout.proofs.Edited.Parted.{Has, rows-slots}
 use Rattle.edit_entry.specs.Growth.{new_meta, Recounted, Timed}
-use Rattle.edit_entry.proofs.Counted.{same-most, same-room, same-extent, same-mask, new-count, same-held, here-ok, number_ok_lem}
+use Rattle.edit_entry.proofs.Counted.{same_most, same_room, same_extent, same_mask, new-count, same_held, here-ok, number_ok_lem}
 
 -- a slot by what is read of it
 pub node_same : {i j : ℕ} {m n : Meta} {c d : Bytes} (k : ℕ) → i ≡ j → m ≡ n → c ≡ d → node_by i k m c ≡ node_by j k n d
@@ -70,16 +70,16 @@ module _ (st st' : Store) (rs rs' : List Row) (s n h : ℕ) (c : Bytes) (t : Tim
 
   -- ---- the other slots
 
-  pub other-head : (k : ℕ) → (k ≡ s → ⊥) → get_or st'.heads k 0 ≡ get_or st.heads k 0
-  other-head k e = ap (λ (hs : List ℕ). get_or hs k 0) g.heads ∙ get_or-set_other st.heads s k h 0 e
+  pub other_head : (k : ℕ) → (k ≡ s → ⊥) → get_or st'.heads k 0 ≡ get_or st.heads k 0
+  other_head k e = ap (λ (hs : List ℕ). get_or hs k 0) g.heads ∙ get_or-set_other st.heads s k h 0 e
 
-  pub other-bytes : (k : ℕ) → (k ≡ s → ⊥) → bytes_at st' k ≡ bytes_at st k
-  other-bytes k e = ap (λ (cs : List Bytes). get_or cs k []) g.texts ∙ get_or-set_other (contents st.heads st.bytes) s k c [] e
+  pub other_bytes : (k : ℕ) → (k ≡ s → ⊥) → bytes_at st' k ≡ bytes_at st k
+  other_bytes k e = ap (λ (cs : List Bytes). get_or cs k []) g.texts ∙ get_or-set_other (contents st.heads st.bytes) s k c [] e
 
-  pub other-meta : (k : ℕ) → (k ≡ s → ⊥) → meta_at st' k ≡ meta_at st k
-  other-meta k e =
+  pub other_meta : (k : ℕ) → (k ≡ s → ⊥) → meta_at st' k ≡ meta_at st k
+  other_meta k e =
       let z : 4 * k ≡ 4 * k + 0 = omega arith in
-      rw (other-head k e, g.times.other k 1 (omega arith) e, g.times.other k 2 (omega arith) e, g.times.other k 3 (omega arith) e)
+      rw (other_head k e, g.times.other k 1 (omega arith) e, g.times.other k 2 (omega arith) e, g.times.other k 3 (omega arith) e)
       (ap (λ (y : Time). record { mode = mode_of (get_or st.heads k 0); accessed = y; changed = get_or st.times (4 * k + 1) (pos 0); created = get_or st.times (4 * k + 2) (pos 0); modified = get_or st.times (4 * k + 3) (pos 0) })
       (ap (λ (i : ℕ). get_or st'.times i (pos 0)) z ∙ (g.times.other k 0 (omega arith) e ∙ ap (λ (i : ℕ). get_or st.times i (pos 0)) (sym z))))
 
@@ -105,21 +105,21 @@ module _ (st st' : Store) (rs rs' : List Row) (s n h : ℕ) (c : Bytes) (t : Tim
   not_new k u e = let z = was_free.0 in let y : uses s rs ≡ 0 = ap (uses s) (sym g.old) ∙ z in let v : uses k rs ≡ 0 = ap (λ (i : ℕ). uses i rs) e ∙ y in omega arith
 
   pub same_kind : (k : ℕ) → Has rs k → kind_at st k ≡ kind_at st' k
-  same_kind k u = sym (ap kind_of (other-head k (not_new k u)))
+  same_kind k u = sym (ap kind_of (other_head k (not_new k u)))
 
-  pub same-node : (k : ℕ) → Has rs k → node_at st' k ≡ node_at st k
-  same-node k u = node_same k (sym (same_kind k u)) (other-meta k (not_new k u)) (other-bytes k (not_new k u))
+  pub same_node : (k : ℕ) → Has rs k → node_at st' k ≡ node_at st k
+  same_node k u = node_same k (sym (same_kind k u)) (other_meta k (not_new k u)) (other_bytes k (not_new k u))
 
   -- the rules of the entries that were there hold as well by what the slots now hold
-  pub rows-still : T (rows_ok (kind_at st') (length st.heads) rs)
-  rows-still =
+  pub rows_still : T (rows_ok (kind_at st') (length st.heads) rs)
+  rows_still =
       subst T (rows-slots (kind_at st) (kind_at st') (length st.heads) rs same_kind)
       (subst (λ (rs : List Row). T (rows_ok (kind_at st) (length st.heads) rs)) g.old l.entries)
 
   -- ---- the rules
 
-  uses-other : (k : ℕ) → (k ≡ s → ⊥) → uses k (rows_of st') ≡ uses k (rows_of st)
-  uses-other k e =
+  uses_other : (k : ℕ) → (k ≡ s → ⊥) → uses k (rows_of st') ≡ uses k (rows_of st)
+  uses_other k e =
       let z : ◌≡◌ {A = ℕ} (cond (eqb s k) 1 0) 0 = ap (λ (y : Bool). cond {A = ℕ} y 1 0) (ne_eqb s k (λ d. e (sym d))) in
       ap (uses k) g.new ∙ (omega (arith, g.users k, z) ∙ ap (uses k) (sym g.old))
 
@@ -135,9 +135,9 @@ module _ (st st' : Store) (rs rs' : List Row) (s n h : ℕ) (c : Bytes) (t : Tim
       go : Dec (k ≡ s) → T (slot_ok st' k)
       go (yes e) =
           subst (λ (i : ℕ). T (slot_ok st' i)) (sym e)
-          (subst T (sym (slot_same (ap kind_of new-head) new-head uses-new (same-held st st' (suc (count st)) g.counted 32 0 s ∙ was_free.1) new-bytes)) o)
+          (subst T (sym (slot_same (ap kind_of new-head) new-head uses-new (same_held st st' (suc (count st)) g.counted 32 0 s ∙ was_free.1) new-bytes)) o)
       go (no e) =
-          subst T (sym (slot_same (ap kind_of (other-head k e)) (other-head k e) (uses-other k e) (same-held st st' (suc (count st)) g.counted 32 0 k) (other-bytes k e))) (l.slots k low)
+          subst T (sym (slot_same (ap kind_of (other_head k e)) (other_head k e) (uses_other k e) (same_held st st' (suc (count st)) g.counted 32 0 k) (other_bytes k e))) (l.slots k low)
 
   new-total : total st'.heads ≡ total st.heads + length c
   new-total =
@@ -147,9 +147,9 @@ module _ (st st' : Store) (rs rs' : List Row) (s n h : ℕ) (c : Bytes) (t : Tim
   pub added-lawful : T (rows_ok (kind_at st') (length st.heads) rs') → T (slot_by (kind_of h) h 1 false c) → Lawful st'
   added-lawful ok o =
       let r = g.counted in
-      let most-same = same-most st st' (suc (count st)) r in
-      let room_same = same-room st st' (suc (count st)) r in
-      let extent-same = same-extent st st' (suc (count st)) r in
+      let most-same = same_most st st' (suc (count st)) r in
+      let room_same_lem = same_room st st' (suc (count st)) r in
+      let extent-same = same_extent st st' (suc (count st)) r in
       let old = l.exact in
       record {
         exact =
@@ -159,18 +159,18 @@ module _ (st st' : Store) (rs rs' : List Row) (s n h : ℕ) (c : Bytes) (t : Tim
               heads = r.slots ∙ (old.heads ∙ sym extent-same);
               times = g.times.long ∙ (old.times ∙ ap (λ (k : ℕ). 4 * slots_for k) (sym most-same));
               paths = ap length r.paths ∙ old.paths;
-              bytes = g.bytes ∙ (old.bytes ∙ sym room_same);
+              bytes = g.bytes ∙ (old.bytes ∙ sym room_same_lem);
             };
         entry_limit = rw most-same l.entry_limit;
-        byte_limit = rw room_same l.byte_limit;
+        byte_limit = rw room_same_lem l.byte_limit;
         counted = rw (new-count st st' (suc (count st)) r (omega (arith, old.words)), most-same) g.more;
         slotted = rw (extent-same, most-same) l.slotted;
-        space = rw (g.names, new-total, room_same) (omega (arith, g.fits));
+        space = rw (g.names, new-total, room_same_lem) (omega (arith, g.fits));
         entries =
             subst (λ (k : ℕ). T (rows_ok (kind_at st') k (rows_of st'))) (sym r.slots)
             (subst (λ (y : List Row). T (rows_ok (kind_at st') (length st.heads) y)) (sym g.new) ok);
         slots = λ k low. slots-ok o k (subst (λ (i : ℕ). k < i) r.slots low);
         numbers = λ i k. number_ok_lem st st' (suc (count st)) r i (l.numbers i k);
         here = here-ok st st' (suc (count st)) r l.here;
-        umask = rw (same-mask st st' (suc (count st)) r) l.umask;
+        umask = rw (same_mask st st' (suc (count st)) r) l.umask;
       }

@@ -21,7 +21,7 @@ use Rattle.layout.specs.Store.{Store, most, room, slots_for, rows_of, meta_at, b
 use Rattle.layout.specs.Lawful.{rows_ok, uses, slot_ok, Lawful}
 use Rattle.layout.specs.Alike.{Spells}
 use Rattle.layout.proofs.Roots.{all_slots}
-use Rattle.layout.proofs.Tables.{file-found, file-there}
+use Rattle.layout.proofs.Tables.{file-found, file_there}
 use Rattle.layout.proofs.Walks.{SlotsIn}
 use Rattle.layout.specs.Parts.{path_after, Between, Deeper, NotDeeper}
 use Rattle.layout.proofs.Edited.Carrying.{rows-carried, uses-carried, look-carried}
@@ -49,17 +49,17 @@ module _ (st st' : Store) (root : Row) (a : List Row) (row : Row) (x b a₂ b₂
   same_bytes : (k : ℕ) → bytes_at st' k ≡ bytes_at st k
   same_bytes k = ap (λ (c : List Bytes). get_or c k []) g.texts
 
-  same-meta : (k : ℕ) → meta_at st' k ≡ meta_at st k
-  same-meta k = rw (g.heads, g.times) refl
+  same_meta : (k : ℕ) → meta_at st' k ≡ meta_at st k
+  same_meta k = rw (g.heads, g.times) refl
 
-  same-node : (k : ℕ) → node_at st' k ≡ node_at st k
-  same-node k = node_same k (sym (same_kind k)) (same-meta k) (same_bytes k)
+  same_node : (k : ℕ) → node_at st' k ≡ node_at st k
+  same_node k = node_same k (sym (same_kind k)) (same_meta k) (same_bytes k)
 
   same-file : (i : ℕ) (f : File) → file_of (state st').files i ≡ some f → file_of (state st).files i ≡ some f
   same-file i f e =
       let h = file-found st' (length st'.heads) 0 i f e in
-      file-there st n 0 i (omega arith) (omega (arith, ap length g.heads)) (same_kind i ∙ h.kind)
-      ∙ ap some (rw (← same-meta i, ← same_bytes i) (sym h.file))
+      file_there st n 0 i (omega arith) (omega (arith, ap length g.heads)) (same_kind i ∙ h.kind)
+      ∙ ap some (rw (← same_meta i, ← same_bytes i) (sym h.file))
 
   slots-ok : (k : ℕ) → k < n → T (slot_ok st' k)
   slots-ok k h =
@@ -80,17 +80,17 @@ module _ (st st' : Store) (root : Row) (a : List Row) (row : Row) (x b a₂ b₂
         exact =
             record {
               words = ap length g.words ∙ old.words;
-              records = g.records ∙ (old.records ∙ sym same-most);
+              records = g.records ∙ (old.records ∙ sym same_most);
               heads = ap length g.heads ∙ (old.heads ∙ ap (λ (w : List ℕ). get_or w 101 0) (sym g.words));
-              times = ap length g.times ∙ (old.times ∙ ap (λ (k : ℕ). 4 * slots_for k) (sym same-most));
+              times = ap length g.times ∙ (old.times ∙ ap (λ (k : ℕ). 4 * slots_for k) (sym same_most));
               paths = ap length g.paths ∙ old.paths;
-              bytes = g.bytes ∙ (old.bytes ∙ sym same-room);
+              bytes = g.bytes ∙ (old.bytes ∙ sym same_room);
             };
-        entry_limit = rw same-most l.entry_limit;
-        byte_limit = rw same-room l.byte_limit;
+        entry_limit = rw same_most l.entry_limit;
+        byte_limit = rw same_room l.byte_limit;
         counted = rw g.words l.counted;
         slotted = rw g.words l.slotted;
-        space = rw (same-room, g.heads) g.fits;
+        space = rw (same_room, g.heads) g.fits;
         entries =
             subst (λ (k : ℕ). T (rows_ok (kind_at st') k (rows_of st'))) (sym (ap length g.heads))
             (subst (λ (r : List Row). T (rows_ok (kind_at st') n r)) (sym g.new)
@@ -101,11 +101,11 @@ module _ (st st' : Store) (root : Row) (a : List Row) (row : Row) (x b a₂ b₂
         umask = rw g.words l.umask;
       }
     where
-      same-most : most st' ≡ most st
-      same-most = ap (λ (w : List ℕ). get_or w 0 0) g.words
+      same_most : most st' ≡ most st
+      same_most = ap (λ (w : List ℕ). get_or w 0 0) g.words
 
-      same-room : room st' ≡ room st
-      same-room = ap (λ (w : List ℕ). get_or w 1 0) g.words
+      same_room : room st' ≡ room st
+      same_room = ap (λ (w : List ℕ). get_or w 1 0) g.words
 
   -- ---- the state
 
@@ -118,11 +118,11 @@ module _ (st st' : Store) (root : Row) (a : List Row) (row : Row) (x b a₂ b₂
   abbrev was : State
   was = state st
 
-  look-same : ((o r : Path) → behind to o ≡ some r → look (cut from was.tree) o ≡ none) → (o : Path)
+  look_same : ((o r : Path) → behind to o ≡ some r → look (cut from was.tree) o ≡ none) → (o : Path)
       → look (state st').tree o ≡ look (graft to (under from was.tree) ++ cut to (cut from was.tree)) o
-  look-same clear o =
+  look_same clear o =
       ap (λ (r : List Row). look (tree_from (node_at st') [] r) o) g.new
-      ∙ (ap (λ (e : Entries). look e o) (tree-slots (node_at st') (node_at st) [] _ (λ k _. same-node k))
+      ∙ (ap (λ (e : Entries). look e o) (tree-slots (node_at st') (node_at st) [] _ (λ k _. same_node k))
       ∙ (look-carried (kind_at st) n root a row x b rows dx nb a₂ b₂ g.parts q y p (node_at st) (λ i r e. ap (λ (s : List Row). look (cut from (tree_from (node_at st) [] s)) i) (sym g.old) ∙ clear i r e) o
       ∙ ap (λ (s : List Row). look (graft to (under from (tree_from (node_at st) [] s)) ++ cut to (cut from (tree_from (node_at st) [] s))) o) (sym g.old)))
 
@@ -133,7 +133,7 @@ module _ (st st' : Store) (root : Row) (a : List Row) (row : Row) (x b a₂ b₂
         lawful = carried-lawful;
         alike =
             same_alike (state st') was (apply (give to) (apply (take from) (world_of was))) (lawful-shape st' carried-lawful)
-            (look-same clear)
+            (look_same clear)
             (λ i. ap (λ (o : List Open). open_of o i) (opens_kept st st' g.words g.paths))
             (λ i f _ e. same-file i f e)
             (rw (g.words, g.paths) refl)

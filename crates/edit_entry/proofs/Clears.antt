@@ -18,7 +18,7 @@ use Rattle.layout.specs.Lawful.{held_from}
 use Rattle.slots.specs.Uses.{uses_in, stands_from, Within, MarkedBy}
 use Rattle.slots.specs.Put.{swept, swept_c, swept_by, Freed}
 use Rattle.slots.proofs.Contents.{length-contents}
-use Rattle.slots.proofs.Laws.{length-swept, getD-swept}
+use Rattle.slots.proofs.Laws.{length-swept, get_d-swept}
 use Rattle.edit_entry.specs.Clearing.{keeps_one, keeps_used, Cleared}
 
 -- the words alone say on which slots the numbers of a store stand
@@ -40,13 +40,13 @@ module _ (ws : List ℕ) (s : ℕ) where
   unfolding keeps_one
   keep-here k e = ap (λ (b : Bool). not b || stands_from ws 32 0 k) (eq-eqb k s e)
 
-  pub keep-other : (k : ℕ) → (k ≡ s → ⊥) → keeps_one ws s k ≡ true
+  pub keep_other : (k : ℕ) → (k ≡ s → ⊥) → keeps_one ws s k ≡ true
   unfolding keeps_one
-  keep-other k e = ap (λ (b : Bool). not b || stands_from ws 32 0 k) (ne_eqb k s e)
+  keep_other k e = ap (λ (b : Bool). not b || stands_from ws 32 0 k) (ne_eqb k s e)
 
   -- a file number stands on it
-  pub one-held : (hs bs : List ℕ) → stands_from ws 32 0 s ≡ true → Cleared hs bs hs bs (keeps_one ws s)
-  one-held hs bs t =
+  pub one_held : (hs bs : List ℕ) → stands_from ws 32 0 s ≡ true → Cleared hs bs hs bs (keeps_one ws s)
+  one_held hs bs t =
       record {
         heads = λ k _. refl;
         texts = λ k _. refl;
@@ -59,12 +59,12 @@ module _ (ws : List ℕ) (s : ℕ) where
     where
       all : (k : ℕ) → Dec (k ≡ s) → keeps_one ws s k ≡ true
       all k (yes e) = keep-here k e ∙ (ap (stands_from ws 32 0) e ∙ t)
-      all k (no e) = keep-other k e
+      all k (no e) = keep_other k e
 
   -- none does
-  pub one-freed : (hs bs hs' bs' : List ℕ) → s < length hs → stands_from ws 32 0 s ≡ false → Freed hs bs hs' bs' (set hs s 0) (set (contents hs bs) s [])
+  pub one_freed : (hs bs hs' bs' : List ℕ) → s < length hs → stands_from ws 32 0 s ≡ false → Freed hs bs hs' bs' (set hs s 0) (set (contents hs bs) s [])
       → Cleared hs bs hs' bs' (keeps_one ws s)
-  one-freed hs bs hs' bs' low t f =
+  one_freed hs bs hs' bs' low t f =
       record {
         heads = λ k h. ap (λ (l : List ℕ). get_or l k 0) f.heads ∙ get_or-set_other hs s k 0 0 (apart k h);
         texts = λ k h. ap (λ (l : List (List ℕ)). get_or l k []) f.texts ∙ get_or-set_other (contents hs bs) s k [] [] (apart k h);
@@ -84,15 +84,15 @@ module _ (ws : List ℕ) (s : ℕ) where
       freed : (k : ℕ) → keeps_one ws s k ≡ false → Dec (k ≡ s) → get_or hs' k 0 ≡ 0
       freed k h (yes e) =
           ap (λ (j : ℕ). get_or hs' j 0) e ∙ (ap (λ (l : List ℕ). get_or l s 0) f.heads ∙ get_or-set_same hs s 0 0 low)
-      freed k h (no e) = absurd (false≢true (sym h ∙ keep-other k e))
+      freed k h (no e) = absurd (false≢true (sym h ∙ keep_other k e))
 
 -- ---- all that nothing uses
 
 module _ (ws recs hs : List ℕ) (within : Within (length hs) recs) (once : (k : ℕ) → k < length hs → uses_in k recs ≤ 1) where
   -- no record is marked twice
-  pub all-marked : (marks : List ℕ) (r : Bool) → MarkedBy recs marks r → MarkedBy recs marks true
-  all-marked marks true m = m
-  all-marked marks false m = absurd (omega (arith, m.2, once (slot_of (get_or recs m.0 0)) (within m.0 m.1)))
+  pub all_marked : (marks : List ℕ) (r : Bool) → MarkedBy recs marks r → MarkedBy recs marks true
+  all_marked marks true m = m
+  all_marked marks false m = absurd (omega (arith, m.2, once (slot_of (get_or recs m.0 0)) (within m.0 m.1)))
 
   module _ (first last : List ℕ) (f : MarkedBy recs first true) (g : (k : ℕ) → get_or last k 0 ≡ get_or first k 0 + cond (stands_from ws 32 0 k) 2 0)
       (long : length hs ≤ length last) where
@@ -109,7 +109,7 @@ module _ (ws recs hs : List ℕ) (within : Within (length hs) recs) (once : (k :
     -- what a sweep leaves of the words, or of the bytes
     module _ {A : Type 0} (none : A) (l : List A) (same : length l ≡ length hs) where
       at_mark : (k : ℕ) → get_or (swept_by none (take (length hs) last) l) k none ≡ cond (eqb (get_or (take (length hs) last) k 0) 0) none (get_or l k none)
-      at_mark k = getD-swept none (take (length hs) last) l k (length-take-le (length hs) last long ∙ sym same)
+      at_mark k = get_d-swept none (take (length hs) last) l k (length-take-le (length hs) last long ∙ sym same)
 
       either : (b : Bool) → cond b none none ≡ none
       either true = refl

@@ -50,22 +50,22 @@ module _ (st : Store) (l : Lawful st) (i : ℕ) (low : i < count st) where
   in_rows_lem : i < length (rows_of st)
   in_rows_lem = omega (arith, low, length-rows (live st) st.bytes, live-length st l)
 
-  in-live : i < length (live st)
-  in-live = omega (arith, low, live-length st l)
+  in_live : i < length (live st)
+  in_live = omega (arith, low, live-length st l)
 
   same_word : get_or (live st) i 0 ≡ get_or st.records i 0
   same_word = get_or-take (count st) st.records i 0 low
 
   pub entry-depth : (r : Row) → (get_or (rows_of st) i r).depth ≡ depth_of (get_or st.records i 0)
-  entry-depth r = row-depth (live st) st.bytes i r in-live ∙ ap depth_of same_word
+  entry-depth r = row-depth (live st) st.bytes i r in_live ∙ ap depth_of same_word
 
   pub entry-slot : (r : Row) → (get_or (rows_of st) i r).slot ≡ slot_of (get_or st.records i 0)
-  entry-slot r = row-slot (live st) st.bytes i r in-live ∙ ap slot_of same_word
+  entry-slot r = row-slot (live st) st.bytes i r in_live ∙ ap slot_of same_word
 
   -- its slot is one of the slots
   pub slot-low : slot_of (get_or st.records i 0) < length st.heads
   slot-low =
-      let w = words_within (length st.heads) (live st) st.bytes (all_slots (kind_at st) (length st.heads) (rows_of st) l.entries) i in-live in
+      let w = words_within (length st.heads) (live st) st.bytes (all_slots (kind_at st) (length st.heads) (rows_of st) l.entries) i in_live in
       omega (arith, w, ap slot_of same_word)
 
   -- the path that has the record's slot is the entry's

@@ -11,7 +11,7 @@ use Rattle.text.specs.Utf8.{Bytes}
 use Rattle.layout.specs.Fields.{len_of, head_word}
 use Rattle.layout.specs.Slots.{total}
 use Rattle.slots.specs.Put.{with_len, Put}
-use Rattle.slots.proofs.Contents.{total-same, contents_same}
+use Rattle.slots.proofs.Contents.{total_same, contents_same}
 use Rattle.slots.specs.Times.{times_set}
 use Rattle.edit_entry.specs.Filling.{Filled}
 
@@ -31,8 +31,8 @@ module _ (hs : List ℕ) (s k m h : ℕ) (e : h ≡ head_word 0 k m) (f : get_or
   same_length : len_of h ≡ len_of (get_or hs s 0)
   same_length = no_length ∙ sym (ap len_of f)
 
-  first-total : total first ≡ total hs
-  first-total = total-same h hs s same_length
+  first_total : total first ≡ total hs
+  first_total = total_same h hs s same_length
 
   first_head : get_or first s 0 ≡ h
   first_head = get_or-set_same hs s h 0 w
@@ -41,7 +41,7 @@ module _ (hs : List ℕ) (s k m h : ℕ) (e : h ≡ head_word 0 k m) (f : get_or
   pub may_write : (bs : Bytes) (n : ℕ) → n ≤ 1048576 → total hs + n ≤ length bs
       → (s < length first) × (n < 16777216) × (total first ≤ length bs) × (total first + n ≤ length bs + len_of (get_or first s 0))
   may_write bs n a r =
-      (rw (length-set hs s h) w, omega arith, omega (arith, first-total), omega (arith, first-total))
+      (rw (length-set hs s h) w, omega arith, omega (arith, first_total), omega (arith, first_total))
 
   pub filled : (ts : List ℤ) (bs : Bytes) (hs' : List ℕ) (ts' : List ℤ) (bs' : Bytes) (t : ℤ) (c : Bytes) → ts' ≡ times_set ts s t t → Put first bs hs' bs' s (length c) c
       → Filled hs ts bs hs' ts' bs' s k m t c
@@ -52,7 +52,7 @@ module _ (hs : List ℕ) (s k m h : ℕ) (e : h ≡ head_word 0 k m) (f : get_or
         texts = p.texts ∙ ap (λ (cs : List Bytes). set cs s c) (contents_same hs bs s h same_length);
         rest = λ n r.
             let z : len_of (get_or first s 0) ≡ 0 = ap len_of first_head ∙ no_length in
-            p.rest n (omega (arith, first-total)) (omega (arith, first-total, p.room));
+            p.rest n (omega (arith, first_total)) (omega (arith, first_total, p.room));
         long = p.long;
       }
 

@@ -44,14 +44,14 @@ module _ (st st' : Store) (a b : List Row) (row : Row) (h : ℕ) (c : Bytes) (t 
         more = g.more;
       }
 
-  pub other-head : (k : ℕ) → (k ≡ s → ⊥) → get_or st'.heads k 0 ≡ get_or st.heads k 0
-  other-head = adding.other-head st st' (a ++ b) (a ++ (row ∷ b)) s (length row.name) h c t l added
+  pub other_head : (k : ℕ) → (k ≡ s → ⊥) → get_or st'.heads k 0 ≡ get_or st.heads k 0
+  other_head = adding.other_head st st' (a ++ b) (a ++ (row ∷ b)) s (length row.name) h c t l added
 
-  pub other-bytes : (k : ℕ) → (k ≡ s → ⊥) → bytes_at st' k ≡ bytes_at st k
-  other-bytes = adding.other-bytes st st' (a ++ b) (a ++ (row ∷ b)) s (length row.name) h c t l added
+  pub other_bytes : (k : ℕ) → (k ≡ s → ⊥) → bytes_at st' k ≡ bytes_at st k
+  other_bytes = adding.other_bytes st st' (a ++ b) (a ++ (row ∷ b)) s (length row.name) h c t l added
 
-  pub other-meta : (k : ℕ) → (k ≡ s → ⊥) → meta_at st' k ≡ meta_at st k
-  other-meta = adding.other-meta st st' (a ++ b) (a ++ (row ∷ b)) s (length row.name) h c t l added
+  pub other_meta : (k : ℕ) → (k ≡ s → ⊥) → meta_at st' k ≡ meta_at st k
+  other_meta = adding.other_meta st st' (a ++ b) (a ++ (row ∷ b)) s (length row.name) h c t l added
 
   pub new-head : get_or st'.heads s 0 ≡ h
   new-head = adding.new-head st st' (a ++ b) (a ++ (row ∷ b)) s (length row.name) h c t l added
@@ -62,15 +62,15 @@ module _ (st st' : Store) (a b : List Row) (row : Row) (h : ℕ) (c : Bytes) (t 
   pub new-meta : meta_at st' s ≡ new_meta (mode_of h) t
   new-meta = adding.new-meta st st' (a ++ b) (a ++ (row ∷ b)) s (length row.name) h c t l added
 
-  pub same-node : (k : ℕ) → Has (a ++ b) k → node_at st' k ≡ node_at st k
-  same-node = adding.same-node st st' (a ++ b) (a ++ (row ∷ b)) s (length row.name) h c t l added
+  pub same_node : (k : ℕ) → Has (a ++ b) k → node_at st' k ≡ node_at st k
+  same_node = adding.same_node st st' (a ++ b) (a ++ (row ∷ b)) s (length row.name) h c t l added
 
   -- the rules of the entries that were there hold as well by what the slots now hold
-  pub rows-still : T (rows_ok (kind_at st') (length st.heads) (a ++ b))
-  rows-still = adding.rows-still st st' (a ++ b) (a ++ (row ∷ b)) s (length row.name) h c t l added
+  pub rows_still : T (rows_ok (kind_at st') (length st.heads) (a ++ b))
+  rows_still = adding.rows_still st st' (a ++ b) (a ++ (row ∷ b)) s (length row.name) h c t l added
 
-  pub dir-still : dir_after (kind_at st) false a ≡ dir_after (kind_at st') false a
-  dir-still = dir-slots (kind_at st) (kind_at st') false a (λ k u. adding.same_kind st st' (a ++ b) (a ++ (row ∷ b)) s (length row.name) h c t l added k (has_first a b k u))
+  pub dir_still : dir_after (kind_at st) false a ≡ dir_after (kind_at st') false a
+  dir_still = dir-slots (kind_at st) (kind_at st') false a (λ k u. adding.same_kind st st' (a ++ b) (a ++ (row ∷ b)) s (length row.name) h c t l added k (has_first a b k u))
 
   pub grown-lawful : T (rows_ok (kind_at st') (length st.heads) (a ++ (row ∷ b))) → T (slot_by (kind_of h) h 1 false c) → Lawful st'
   grown-lawful = adding.added-lawful st st' (a ++ b) (a ++ (row ∷ b)) s (length row.name) h c t l added

@@ -26,16 +26,16 @@ use Rattle.layout.specs.Rows.{Row, tree_from}
 use Rattle.layout.specs.Store.{Store, count, kind_at, node_at, state}
 use Rattle.layout.specs.Lawful.{rows_ok, slot_by, Lawful}
 use Rattle.layout.specs.Alike.{Spells}
-use Rattle.layout.proofs.Slotted.{dir_at, file_at, link_at}
-use Rattle.layout.proofs.Tables.{fileAt, file-found, file-there}
+use Rattle.layout.proofs.Slotted.{dir_at, file_at_lem, link_at}
+use Rattle.layout.proofs.Tables.{file_at, file-found, file_there}
 use Rattle.layout.specs.Parts.{path_after}
 use Rattle.layout.proofs.Edited.Inserting.{look-new}
 use Rattle.layout.proofs.Edited.Parted.{Has, has_first, tree_both, tree-slots, uses_both}
 use Rattle.layout.proofs.Edited.Shapes.{lawful-shape}
 use Rattle.layout.proofs.Edited.Telling.{renode, reopen, lives, matches-alike, same_alike}
 use Rattle.edit_entry.specs.Growth.{new_meta, Grown}
-use Rattle.edit_entry.proofs.Counted.{same-most, same-room, same-mask, same_opens, same_here}
-use Rattle.edit_entry.proofs.Growing.{other-head, other-bytes, other-meta, new-head, new-bytes, new-meta, same-node, grown-lawful}
+use Rattle.edit_entry.proofs.Counted.{same_most, same_room, same_mask, same_opens, same_here}
+use Rattle.edit_entry.proofs.Growing.{other_head, other_bytes, other_meta, new-head, new-bytes, new-meta, same_node, grown-lawful}
 
 module _ (st st' : Store) (a b : List Row) (row : Row) (h : ℕ) (c : Bytes) (t : Time) (l : Lawful st) (g : Grown st st' a b row h c t)
     (at : Path) (tr : (f : ℕ → Node) → tree_from f [] (a ++ (row ∷ b)) ≡ tree_from f [] a ++ ((at, f row.slot) ∷ tree_from f (path_after [] a) b))
@@ -54,8 +54,8 @@ module _ (st st' : Store) (a b : List Row) (row : Row) (h : ℕ) (c : Bytes) (t 
 
   -- ---- the tree
 
-  has-second : (k : ℕ) → Has b k → Has (a ++ b) k
-  has-second k u = omega (arith, uses_both k a b)
+  has_second : (k : ℕ) → Has b k → Has (a ++ b) k
+  has_second k u = omega (arith, uses_both k a b)
 
   old-tree : was.tree ≡ tree_from (node_at st) [] a ++ tree_from (node_at st) (path_after [] a) b
   old-tree = ap (tree_from (node_at st) []) g.old ∙ tree_both (node_at st) [] a b
@@ -64,8 +64,8 @@ module _ (st st' : Store) (a b : List Row) (row : Row) (h : ℕ) (c : Bytes) (t 
   new-tree =
       ap (tree_from (node_at st') []) g.new
       ∙ (tr (node_at st')
-      ∙ (ap (λ (e : Entries). e ++ ((at, node_at st' s) ∷ tree_from (node_at st') (path_after [] a) b)) (tree-slots (node_at st') (node_at st) [] a (λ k u. same-node st st' a b row h c t l g k (has_first a b k u)))
-      ∙ ap (λ (e : Entries). tree_from (node_at st) [] a ++ ((at, node_at st' s) ∷ e)) (tree-slots (node_at st') (node_at st) (path_after [] a) b (λ k u. same-node st st' a b row h c t l g k (has-second k u)))))
+      ∙ (ap (λ (e : Entries). e ++ ((at, node_at st' s) ∷ tree_from (node_at st') (path_after [] a) b)) (tree-slots (node_at st') (node_at st) [] a (λ k u. same_node st st' a b row h c t l g k (has_first a b k u)))
+      ∙ ap (λ (e : Entries). tree_from (node_at st) [] a ++ ((at, node_at st' s) ∷ e)) (tree-slots (node_at st') (node_at st) (path_after [] a) b (λ k u. same_node st st' a b row h c t l g k (has_second k u)))))
 
   look_is : (n : Node) → node_at st' s ≡ n → (r : Path) → look (state st').tree r ≡ look (put at n was.tree) r
   unfolding put
@@ -76,17 +76,17 @@ module _ (st st' : Store) (a b : List Row) (row : Row) (h : ℕ) (c : Bytes) (t 
 
   -- ---- files and numbers
 
-  same-file : (i : ℕ) → (i ≡ s → ⊥) → fileAt st' i ≡ fileAt st i
-  same-file i e = rw (other-meta st st' a b row h c t l g i e, other-bytes st st' a b row h c t l g i e) refl
+  same-file : (i : ℕ) → (i ≡ s → ⊥) → file_at st' i ≡ file_at st i
+  same-file i e = rw (other_meta st st' a b row h c t l g i e, other_bytes st st' a b row h c t l g i e) refl
 
   old-file : (i : ℕ) (f : File) → (i ≡ s → ⊥) → file_of (state st').files i ≡ some f → file_of was.files i ≡ some f
   old-file i f e k =
       let y = file-found st' (length st'.heads) 0 i f k in
-      file-there st (length st.heads) 0 i (omega arith) (omega (arith, g.counted.slots)) (sym (ap kind_of (other-head st st' a b row h c t l g i e)) ∙ y.kind)
+      file_there st (length st.heads) 0 i (omega arith) (omega (arith, g.counted.slots)) (sym (ap kind_of (other_head st st' a b row h c t l g i e)) ∙ y.kind)
       ∙ ap some (sym (same-file i e) ∙ sym y.file)
 
-  same-open : (n : ℕ) → open_of (state st').opens n ≡ open_of was.opens n
-  same-open n = ap (λ (y : List Open). open_of y n) (same_opens st st' (suc (count st)) g.counted)
+  same_open : (n : ℕ) → open_of (state st').opens n ≡ open_of was.opens n
+  same_open n = ap (λ (y : List Open). open_of y n) (same_opens st st' (suc (count st)) g.counted)
 
   new-kind : kind_at st' s ≡ kind_of h
   new-kind = ap kind_of (new-head st st' a b row h c t l g)
@@ -94,8 +94,8 @@ module _ (st st' : Store) (a b : List Row) (row : Row) (h : ℕ) (c : Bytes) (t 
   -- ---- a directory or a link
 
   -- a slot that is no file
-  no-file : (kind_of h ≡ 2 → ⊥) → (i : ℕ) (f : File) → file_of (state st').files i ≡ some f → file_of was.files i ≡ some f
-  no-file w i f k =
+  no_file : (kind_of h ≡ 2 → ⊥) → (i : ℕ) (f : File) → file_of (state st').files i ≡ some f → file_of was.files i ≡ some f
+  no_file w i f k =
       old-file i f
       (λ e. w (sym new-kind ∙ (ap (kind_at st') (sym e) ∙ (file-found st' (length st'.heads) 0 i f k).kind)))
       k
@@ -111,13 +111,13 @@ module _ (st st' : Store) (a b : List Row) (row : Row) (h : ℕ) (c : Bytes) (t 
         alike =
             same_alike (state st') was (apply (make at (new_meta (mode_of h) t)) (world_of was)) shape
             (look_is (dir (new_meta (mode_of h) t)) (dir_at st' s (new-kind ∙ e) ∙ ap dir (new-meta st st' a b row h c t l g)))
-            same-open
-            (λ i f _ k. no-file (λ d. omega (arith, d, e)) i f k)
+            same_open
+            (λ i f _ k. no_file (λ d. omega (arith, d, e)) i f k)
             (same_here st st' (suc (count st)) g.counted)
-            (same-mask st st' (suc (count st)) g.counted)
+            (same_mask st st' (suc (count st)) g.counted)
             (once (dir (new_meta (mode_of h) t)))
-            (same-most st st' (suc (count st)) g.counted)
-            (same-room st st' (suc (count st)) g.counted);
+            (same_most st st' (suc (count st)) g.counted)
+            (same_room st st' (suc (count st)) g.counted);
       }
 
   pub grown-link : kind_of h ≡ 3 → Spells st' (edited (symlink at (new_meta (mode_of h) t) c) was)
@@ -128,13 +128,13 @@ module _ (st st' : Store) (a b : List Row) (row : Row) (h : ℕ) (c : Bytes) (t 
         alike =
             same_alike (state st') was (apply (symlink at (new_meta (mode_of h) t) c) (world_of was)) shape
             (look_is (link (new_meta (mode_of h) t) c) (link_at st' s (new-kind ∙ e) ∙ rw (new-meta st st' a b row h c t l g, new-bytes st st' a b row h c t l g) refl))
-            same-open
-            (λ i f _ k. no-file (λ d. omega (arith, d, e)) i f k)
+            same_open
+            (λ i f _ k. no_file (λ d. omega (arith, d, e)) i f k)
             (same_here st st' (suc (count st)) g.counted)
-            (same-mask st st' (suc (count st)) g.counted)
+            (same_mask st st' (suc (count st)) g.counted)
             (once (link (new_meta (mode_of h) t) c))
-            (same-most st st' (suc (count st)) g.counted)
-            (same-room st st' (suc (count st)) g.counted);
+            (same_most st st' (suc (count st)) g.counted)
+            (same_room st st' (suc (count st)) g.counted);
       }
 
   -- ---- a file
@@ -157,11 +157,11 @@ module _ (st st' : Store) (a b : List Row) (row : Row) (h : ℕ) (c : Bytes) (t 
   restay i e = ap (λ (y : Bool). cond y s i) (ne_eqb i fresh e)
 
   -- a file that was there has another number
-  not-fresh : (i : ℕ) → HasFile was.files i → i ≡ fresh → ⊥
-  not-fresh i f e = clash (file_of was.files i) f.0 (ap (file_of was.files) e ∙ new-free was.files) f.1
+  not_fresh : (i : ℕ) → HasFile was.files i → i ≡ fresh → ⊥
+  not_fresh i f e = clash (file_of was.files i) f.0 (ap (file_of was.files) e ∙ new-free was.files) f.1
 
-  not-slot : (i : ℕ) → HasFile was.files i → i ≡ s → ⊥
-  not-slot i f e =
+  not_slot : (i : ℕ) → HasFile was.files i → i ≡ s → ⊥
+  not_slot i f e =
       let y = file-found st (length st.heads) 0 i f.0 f.1 in
       let d : kind_at st i ≡ 0 = ap (kind_at st) e ∙ ap kind_of g.free in
       omega (arith, y.kind, d)
@@ -171,19 +171,19 @@ module _ (st st' : Store) (a b : List Row) (row : Row) (h : ℕ) (c : Bytes) (t 
   node_stays r none e = refl
   node_stays r (some (dir k)) e = refl
   node_stays r (some (link k d)) e = refl
-  node_stays r (some (file i)) e = ap (λ (y : ℕ). some (file y)) (sym (restay i (not-fresh i ((lawful-shape st l).nodes r i e))))
+  node_stays r (some (file i)) e = ap (λ (y : ℕ). some (file y)) (sym (restay i (not_fresh i ((lawful-shape st l).nodes r i e))))
 
   open_stays : (n : ℕ) (d : Option Open) → open_of was.opens n ≡ d → d ≡ reopen renumber d
   open_stays n none e = refl
   open_stays n (some d) e =
-      ap (λ (y : ℕ). some (record { num = d.num; id = y; pos = d.pos; kept = d.kept })) (sym (restay d.id (not-fresh d.id ((lawful-shape st l).stands n d e))))
+      ap (λ (y : ℕ). some (record { num = d.num; id = y; pos = d.pos; kept = d.kept })) (sym (restay d.id (not_fresh d.id ((lawful-shape st l).stands n d e))))
 
   abbrev then : World
   then = apply (create at made) (world_of was)
 
   file-look : kind_of h ≡ 2 → (r : Path) → look (state st').tree r ≡ renode renumber (look (put at (file fresh) was.tree) r)
   unfolding put
-  file-look e r = look_is (file s) (file_at st' s (new-kind ∙ e)) r ∙ go (path-dec at r)
+  file-look e r = look_is (file s) (file_at_lem st' s (new-kind ∙ e)) r ∙ go (path-dec at r)
     where
       go : Dec (at ≡ r) → look ((at, file s) ∷ less at was.tree) r ≡ renode renumber (look ((at, file fresh) ∷ less at was.tree) r)
       go (yes y) =
@@ -226,7 +226,7 @@ module _ (st st' : Store) (a b : List Row) (row : Row) (h : ℕ) (c : Bytes) (t 
           ∙ ap some (rw (← new-meta st st' a b row h c t l g, ← new-bytes st st' a b row h c t l g) (sym w.file))
       go (no d) =
           ap (λ (r : Bool). or_else r made (file_of was.files i)) (ne_eqb fresh i (λ w. d (sym w)))
-          ∙ old-file i f (not-slot i (lived i d y)) (ap (file_of (state st').files) (sym (restay i d)) ∙ k)
+          ∙ old-file i f (not_slot i (lived i d y)) (ap (file_of (state st').files) (sym (restay i d)) ∙ k)
 
   one_number : (i j : ℕ) → T (is_named (put at (file fresh) was.tree) i || is_held was.opens i) → T (is_named (put at (file fresh) was.tree) j || is_held was.opens j)
       → renumber i ≡ renumber j → i ≡ j
@@ -234,8 +234,8 @@ module _ (st st' : Store) (a b : List Row) (row : Row) (h : ℕ) (c : Bytes) (t 
     where
       go : Dec (i ≡ fresh) → Dec (j ≡ fresh) → i ≡ j
       go (yes d) (yes f) = d ∙ sym f
-      go (yes d) (no f) = absurd (not-slot j (lived j f w) (sym (restay j f) ∙ (sym e ∙ renew i d)))
-      go (no d) (yes f) = absurd (not-slot i (lived i d y) (sym (restay i d) ∙ (e ∙ renew j f)))
+      go (yes d) (no f) = absurd (not_slot j (lived j f w) (sym (restay j f) ∙ (sym e ∙ renew i d)))
+      go (no d) (yes f) = absurd (not_slot i (lived i d y) (sym (restay i d) ∙ (e ∙ renew j f)))
       go (no d) (no f) = sym (restay i d) ∙ (e ∙ restay j f)
 
   pub grown-file : kind_of h ≡ 2 → Spells st' (edited (create at made) was)
@@ -247,13 +247,13 @@ module _ (st st' : Store) (a b : List Row) (row : Row) (h : ℕ) (c : Bytes) (t 
             matches-alike renumber (state st') was (apply (create at made) (world_of was)) shape
             (record {
               entries = file-look e;
-              opens = λ n. same-open n ∙ open_stays n (open_of was.opens n) refl;
+              opens = λ n. same_open n ∙ open_stays n (open_of was.opens n) refl;
               files = file-kept e;
               one = one_number;
               current = same_here st st' (suc (count st)) g.counted;
-              umask = same-mask st st' (suc (count st)) g.counted;
+              umask = same_mask st st' (suc (count st)) g.counted;
               paths = once (file fresh);
             })
-            (same-most st st' (suc (count st)) g.counted)
-            (same-room st st' (suc (count st)) g.counted);
+            (same_most st st' (suc (count st)) g.counted)
+            (same_room st st' (suc (count st)) g.counted);
       }

@@ -80,8 +80,8 @@ module _ (ts : List ℤ) (s : ℕ) (t : ℤ) (h : 4 * s + 4 ≤ length ts) where
   timed-long = length-set t₃ (4 * s + 3) t ∙ long₃
 
   -- a time of another slot
-  pub timed-other : (i : ℕ) → ((j : ℕ) → j < 4 → i ≡ 4 * s + j → ⊥) → get_or (times_set ts s t t) i (pos 0) ≡ get_or ts i (pos 0)
-  timed-other i apart =
+  pub timed_other : (i : ℕ) → ((j : ℕ) → j < 4 → i ≡ 4 * s + j → ⊥) → get_or (times_set ts s t t) i (pos 0) ≡ get_or ts i (pos 0)
+  timed_other i apart =
       get_or-set_other t₃ (4 * s + 3) i t (pos 0) (apart 3 (omega arith))
       ∙ (get_or-set_other t₂ (4 * s + 2) i t (pos 0) (apart 2 (omega arith))
       ∙ (get_or-set_other t₁ (4 * s + 1) i t (pos 0) (apart 1 (omega arith)) ∙ get_or-set_other ts (4 * s) i t (pos 0) (λ e. apart 0 (omega arith) (e ∙ omega arith))))
@@ -99,7 +99,7 @@ times-filled st st' s t h e =
     record {
       long = ap length e ∙ timed-long st.times s t h;
       here = λ j y. ap (λ (z : List ℤ). get_or z (4 * s + j) (pos 0)) e ∙ timed-here st.times s t h j y;
-      other = λ r j y d. ap (λ (z : List ℤ). get_or z (4 * r + j) (pos 0)) e ∙ timed-other st.times s t h (4 * r + j) (λ n u q. d (slot_of_time r s j n y u q));
+      other = λ r j y d. ap (λ (z : List ℤ). get_or z (4 * r + j) (pos 0)) e ∙ timed_other st.times s t h (4 * r + j) (λ n u q. d (slot_of_time r s j n y u q));
     }
 
 -- ---- all steps

@@ -20,7 +20,7 @@ use Rattle.layout.specs.Lawful.{Lawful}
 use Rattle.model.specs.Calls.States.{nested}
 use Rattle.layout.specs.Alike.{Spells}
 use Rattle.layout.specs.Parts.{path_after, deepen}
-use Rattle.layout.proofs.Roots.{root-of}
+use Rattle.layout.proofs.Roots.{root_of}
 use Rattle.layout.proofs.Worded.{head-length, head-kind, head-mode}
 use Rattle.layout.proofs.Edited.Inserting.{root_is}
 use Rattle.layout.proofs.Edited.Nesting.{lowered, uses-lowered}
@@ -65,12 +65,12 @@ module _ (ws rs hs : List ℕ) (ts : List ℤ) (ps bs : Bytes) (i e : ℕ) (y : 
   whole : rows_of st ≡ root ∷ (a ++ (row ∷ (x ++ b)))
   whole = removes.whole ws rs hs ts ps bs i e l n.block
 
-  all-length : length (rows_of st) ≡ count st
-  all-length = removes.all-length ws rs hs ts ps bs i e l n.block
+  all_length : length (rows_of st) ≡ count st
+  all_length = removes.all_length ws rs hs ts ps bs i e l n.block
 
   front_long : length (root ∷ a) ≡ i
   front_long =
-      ap length (sym (removes.part ws rs hs ts ps bs i e l n.block).front) ∙ length-take-le i (rows_of st) (omega (arith, all-length, n.block.some, n.block.last))
+      ap length (sym (removes.part ws rs hs ts ps bs i e l n.block).front) ∙ length-take-le i (rows_of st) (omega (arith, all_length, n.block.some, n.block.last))
 
   block-long : suc (i + length x) ≡ e
   block-long = omega (arith, removes.long ws rs hs ts ps bs i e l n.block, n.block.some)
@@ -82,8 +82,8 @@ module _ (ws rs hs : List ℕ) (ts : List ℤ) (ps bs : Bytes) (i e : ℕ) (y : 
   depths : Low (count st) ((root ∷ a) ++ (row ∷ (x ++ b)))
   depths =
       let r = removes.rules ws rs hs ts ps bs i e l n.block in
-      let o = root-of (kind_at st) (length hs) root (a ++ (row ∷ (x ++ b))) r in
-      let c : suc (length (a ++ (row ∷ (x ++ b)))) ≡ count st = ap length (sym whole) ∙ all-length in (
+      let o = root_of (kind_at st) (length hs) root (a ++ (row ∷ (x ++ b))) r in
+      let c : suc (length (a ++ (row ∷ (x ++ b)))) ≡ count st = ap length (sym whole) ∙ all_length in (
         omega (arith, (root_is (kind_at st) (length hs) root (root_ok_lem (kind_at st) (length hs) root (a ++ (row ∷ (x ++ b))) r)).0),
         low_more (0 + length (a ++ (row ∷ (x ++ b)))) (count st) (a ++ (row ∷ (x ++ b))) (omega (arith, c)) (walk-low (kind_at st) (length hs) [] true (a ++ (row ∷ (x ++ b))) o.rest),
       )
@@ -182,8 +182,8 @@ module _ (ws rs hs : List ℕ) (ts : List ℤ) (ps bs : Bytes) (i e : ℕ) (y : 
           (nested-spells st st' root a row x b y s h t l added (removes.below ws rs hs ts ps bs i e l n.block) (removes.behind ws rs hs ts ps bs i e l n.block) n.name is-dir
           (holds-slot 1 0 m [] (omega arith) refl (omega arith) refl)))
 
-      pub nested-at : (p : Path) → EntryPath st i p → NestedAt st st' i y p m t
-      nested-at p k = record {
+      pub nested_at : (p : Path) → EntryPath st i p → NestedAt st st' i y p m t
+      nested_at p k = record {
         spells = nested-by p k;
         row = row;
         slot = s;

@@ -29,7 +29,7 @@ use Rattle.blocks.proofs.Turns.{turned-parts}
 use Rattle.records.specs.Blocks.{each, raise, raised, move_to, Liftable, Moved}
 use Rattle.layout.proofs.Named.{length-rows, rows_drop}
 use Rattle.records.proofs.Entries.{contents-kept, total-step, total-take}
-use Rattle.records.proofs.Lifts.{length-each}
+use Rattle.records.proofs.Lifts.{length_each}
 use Rattle.records.proofs.Swings.{move_down, move_up}
 use Rattle.layout.specs.Parts.{path_after, Deeper, deepen}
 use Rattle.layout.proofs.Edited.Inserting.{root_is}
@@ -154,13 +154,13 @@ module _ (ws rs hs : List ℕ) (ts : List ℤ) (ps bs : Bytes) (i e p depth : �
   A-long : length A ≡ i
   A-long = sym m.from
 
-  all-rows : rows_of st ≡ A ++ (m.row ∷ (m.x ++ m.b))
-  all-rows = m.rows
+  all_rows : rows_of st ≡ A ++ (m.row ∷ (m.x ++ m.b))
+  all_rows = m.rows
 
   many : n ≡ i + suc (length m.x + length m.b)
   many =
       sym (live-length st l)
-      ∙ (sym (length-rows (live st) bs) ∙ (ap length all-rows ∙ omega (arith, length-append m.a (m.row ∷ (m.x ++ m.b)), length-append m.x m.b, m.from)))
+      ∙ (sym (length-rows (live st) bs) ∙ (ap length all_rows ∙ omega (arith, length-append m.a (m.row ∷ (m.x ++ m.b)), length-append m.x m.b, m.from)))
 
   within : e ≤ n
   within = omega (arith, many, m.to)
@@ -169,10 +169,10 @@ module _ (ws rs hs : List ℕ) (ts : List ℤ) (ps bs : Bytes) (i e p depth : �
   low-index = (omega (arith, many), omega (arith, l.exact.records, l.counted), omega (arith, l.counted, l.entry_limit.1))
 
   -- the entry's word
-  word-is : (depth_of (get_or rs i 0) ≡ m.row.depth) × (slot_of (get_or rs i 0) ≡ m.row.slot) × (nlen_of (get_or rs i 0) ≡ length m.row.name)
-  word-is =
+  word_is : (depth_of (get_or rs i 0) ≡ m.row.depth) × (slot_of (get_or rs i 0) ≡ m.row.slot) × (nlen_of (get_or rs i 0) ≡ length m.row.name)
+  word_is =
       let k = length A in
-      let w = word_at (live st) bs A m.row (m.x ++ m.b) all-rows in
+      let w = word_at (live st) bs A m.row (m.x ++ m.b) all_rows in
       let g : get_or (live st) k 0 ≡ get_or rs i 0 = ap (λ (j : ℕ). get_or (live st) j 0) A-long ∙ get_or-take n rs i 0 low-index.0 in
       let t = total-step (live st) 0 k (omega arith) (omega (arith, live-length st l, low-index.0, A-long)) in
       let u = total-take (live st) (suc k) in
@@ -188,9 +188,9 @@ module _ (ws rs hs : List ℕ) (ts : List ℤ) (ps bs : Bytes) (i e p depth : �
     low-index.1,
     low-index.2,
     omega (arith, name-short y m.name),
-    omega (arith, word-is.1, slot-low, l.exact.heads, l.slotted, l.entry_limit.1),
+    omega (arith, word_is.1, slot-low, l.exact.heads, l.slotted, l.entry_limit.1),
     omega (arith, l.space, l.exact.bytes),
-    omega (arith, m.fits, l.exact.bytes, word-is.2),
+    omega (arith, m.fits, l.exact.bytes, word_is.2),
   )
     where
       slot-low : m.row.slot < length hs
@@ -206,8 +206,8 @@ module _ (ws rs hs : List ℕ) (ts : List ℤ) (ps bs : Bytes) (i e p depth : �
     rows₁ : rows (take n rs₁) bs₁ ≡ A ++ ((row₂ ∷ m.x) ++ m.b)
     rows₁ =
         o.all
-        ∙ (ap (λ (r : List Row). take i r ++ (record { depth = depth_of (get_or rs i 0); name = y; slot = slot_of (get_or rs i 0) } ∷ drop (suc i) r)) all-rows
-        ∙ (rw (word-is.0, word-is.1) (ap (λ (k : ℕ). take k full ++ (row₂ ∷ drop (suc k) full)) (sym A-long) ∙ (ap (λ (r : List Row). r ++ (row₂ ∷ drop (suc (length A)) full)) (take-append_seam A (m.row ∷ (m.x ++ m.b))) ∙ ap (λ (r : List Row). A ++ (row₂ ∷ r)) behind))))
+        ∙ (ap (λ (r : List Row). take i r ++ (record { depth = depth_of (get_or rs i 0); name = y; slot = slot_of (get_or rs i 0) } ∷ drop (suc i) r)) all_rows
+        ∙ (rw (word_is.0, word_is.1) (ap (λ (k : ℕ). take k full ++ (row₂ ∷ drop (suc k) full)) (sym A-long) ∙ (ap (λ (r : List Row). r ++ (row₂ ∷ drop (suc (length A)) full)) (take-append_seam A (m.row ∷ (m.x ++ m.b))) ∙ ap (λ (r : List Row). A ++ (row₂ ∷ r)) behind))))
       where
         full : List Row
         full = A ++ (m.row ∷ (m.x ++ m.b))
@@ -265,7 +265,7 @@ module _ (ws rs hs : List ℕ) (ts : List ℤ) (ps bs : Bytes) (i e p depth : �
       outside.1,
       omega (arith, o.record_count, low-index.1),
       low-index.2,
-      omega (arith, o.sum, o.byte_count, m.fits, l.exact.bytes, word-is.2),
+      omega (arith, o.sum, o.byte_count, m.fits, l.exact.bytes, word_is.2),
       omega (arith, depth_small),
       liftable,
     )
@@ -293,7 +293,7 @@ module _ (ws rs hs : List ℕ) (ts : List ℤ) (ps bs : Bytes) (i e p depth : �
           ∙ ap (◌∷◌ (new_row m.q y m.row.slot)) (raise-is depth m.row.depth m.x ∙ ap (λ (k : ℕ). deepen m.row.depth k m.x) new-depth)
 
       X-long : i + length X ≡ e
-      X-long = omega (arith, ap length (sym X-is), length-each (raise depth m.row.depth) (row₂ ∷ m.x), m.to)
+      X-long = omega (arith, ap length (sym X-is), length_each (raise depth m.row.depth) (row₂ ∷ m.x), m.to)
 
       -- the rows before the rotation
       lifted : raised (rows (take n rs₁) bs₁) i e depth m.row.depth ≡ A ++ (X ++ m.b)
@@ -353,14 +353,14 @@ module _ (ws rs hs : List ℕ) (ts : List ℤ) (ps bs : Bytes) (i e p depth : �
             times = refl;
             paths = refl;
             texts =
-                contents-kept hs bs₁ bs' (name_total (take n rs₁)) (omega (arith, o.sum, o.byte_count, m.fits, l.exact.bytes, word-is.2)) v.byte_count v.rest
-                ∙ o.texts hs (omega (arith, l.space, l.exact.bytes)) (omega (arith, m.fits, l.exact.bytes, word-is.2));
+                contents-kept hs bs₁ bs' (name_total (take n rs₁)) (omega (arith, o.sum, o.byte_count, m.fits, l.exact.bytes, word_is.2)) v.byte_count v.rest
+                ∙ o.texts hs (omega (arith, l.space, l.exact.bytes)) (omega (arith, m.fits, l.exact.bytes, word_is.2));
             records = v.record_count ∙ o.record_count;
             bytes = v.byte_count ∙ o.byte_count;
             old = m.rows;
             parts = split;
             new = turned_rows;
-            fits = omega (arith, v.sum, o.sum, m.fits, word-is.2);
+            fits = omega (arith, v.sum, o.sum, m.fits, word_is.2);
           }
 
       moves : Spells st' (moved (path_of (path_after [] m.a) m.row) (m.q ++ (y ∷ [])) (state st))
@@ -370,8 +370,8 @@ module _ (ws rs hs : List ℕ) (ts : List ℤ) (ps bs : Bytes) (i e p depth : �
     -- the depth as the code reads it
     pub may-move-by : (d : ℕ) → d ≡ depth_of (get_or rs i 0)
         → (i ≤ e) × (e ≤ n) × (p ≤ n) × (i < p → e ≤ p) × (n ≤ length rs₁) × (n ≤ 4096) × (name_total (take n rs₁) ≤ length bs₁) × (depth ≤ 65536) × ((j : ℕ) → i ≤ j → j < e → Liftable (get_or rs₁ j 0) depth d)
-    may-move-by d f = rw (f ∙ word-is.0) may-move
+    may-move-by d f = rw (f ∙ word_is.0) may-move
 
     pub moves-by : (d : ℕ) → d ≡ depth_of (get_or rs i 0) → (rs' : List ℕ) (bs' : Bytes) → Moved rs₁ bs₁ rs' bs' n i e p depth d
         → Spells (lent ws rs' hs ts ps bs') (moved (path_of (path_after [] m.a) m.row) (m.q ++ (y ∷ [])) (state st))
-    moves-by d f rs' bs' v = moves rs' bs' (subst (λ (k : ℕ). Moved rs₁ bs₁ rs' bs' n i e p depth k) (f ∙ word-is.0) v)
+    moves-by d f rs' bs' v = moves rs' bs' (subst (λ (k : ℕ). Moved rs₁ bs₁ rs' bs' n i e p depth k) (f ∙ word_is.0) v)

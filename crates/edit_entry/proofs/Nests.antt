@@ -22,14 +22,14 @@ use Rattle.layout.specs.Lawful.{rows_ok, slot_by, Lawful}
 use Rattle.layout.specs.Alike.{Spells}
 use Rattle.layout.specs.Parts.{path_after, Deeper, NotDeeper}
 use Rattle.layout.proofs.Slotted.{dir_at}
-use Rattle.layout.proofs.Tables.{fileAt, file-found, file-there}
+use Rattle.layout.proofs.Tables.{file_at, file-found, file_there}
 use Rattle.layout.proofs.Edited.Parted.{tree-slots}
 use Rattle.layout.proofs.Edited.Nesting.{lowered, rows-lowered, look-lowered}
 use Rattle.layout.proofs.Edited.Shapes.{lawful-shape}
 use Rattle.layout.proofs.Edited.Telling.{same_alike}
 use Rattle.edit_entry.specs.Growth.{new_meta}
-use Rattle.edit_entry.proofs.Adding.{Added, other-head, other-bytes, other-meta, new-head, new-meta, same-node, rows-still, added-lawful}
-use Rattle.edit_entry.proofs.Counted.{same-most, same-room, same-mask, same_here, same_opens}
+use Rattle.edit_entry.proofs.Adding.{Added, other_head, other_bytes, other_meta, new-head, new-meta, same_node, rows_still, added-lawful}
+use Rattle.edit_entry.proofs.Counted.{same_most, same_room, same_mask, same_here, same_opens}
 
 module _ (st st' : Store) (root : Row) (a : List Row) (row : Row) (x b : List Row) (y : Name) (s h : ℕ) (t : Time) (l : Lawful st)
     (g : Added st st' (root ∷ (a ++ (row ∷ (x ++ b)))) (lowered root a row x b s y) s (length y) h [] t) (dx : Deeper row.depth x) (nb : NotDeeper row.depth b)
@@ -47,7 +47,7 @@ module _ (st st' : Store) (root : Row) (a : List Row) (row : Row) (x b : List Ro
   from = path_of (path_after [] a) row
 
   rows : T (rows_ok (kind_at st') n old)
-  rows = rows-still st st' old (lowered root a row x b s y) s (length y) h [] t l g
+  rows = rows_still st st' old (lowered root a row x b s y) s (length y) h [] t l g
 
   new-kind : kind_at st' s ≡ 1
   new-kind = ap kind_of (new-head st st' old (lowered root a row x b s y) s (length y) h [] t l g) ∙ is_dir
@@ -55,9 +55,9 @@ module _ (st st' : Store) (root : Row) (a : List Row) (row : Row) (x b : List Ro
   after : Lawful st'
   after = added-lawful st st' old (lowered root a row x b s y) s (length y) h [] t l g (rows-lowered (kind_at st') n root a row x b rows dx nb s new-kind y g.low m) o
 
-  same-tree : tree_from (node_at st') [] old ≡ was.tree
-  same-tree =
-      tree-slots (node_at st') (node_at st) [] old (same-node st st' old (lowered root a row x b s y) s (length y) h [] t l g) ∙ ap (tree_from (node_at st) []) (sym g.old)
+  same_tree : tree_from (node_at st') [] old ≡ was.tree
+  same_tree =
+      tree-slots (node_at st') (node_at st) [] old (same_node st st' old (lowered root a row x b s y) s (length y) h [] t l g) ∙ ap (tree_from (node_at st) []) (sym g.old)
 
   new-node : node_at st' s ≡ dir (new_meta (mode_of h) t)
   new-node = dir_at st' s new-kind ∙ ap dir (new-meta st st' old (lowered root a row x b s y) s (length y) h [] t l g)
@@ -69,14 +69,14 @@ module _ (st st' : Store) (root : Row) (a : List Row) (row : Row) (x b : List Ro
   look_is p =
       ap (λ (r : List Row). look (tree_from (node_at st') [] r) p) g.new
       ∙ (look-lowered (kind_at st') n root a row x b rows dx nb s new-kind y (node_at st') p
-      ∙ (λ i. look (graft to (under from (same-tree i)) ++ cut to (put from (new-node i) (cut from (same-tree i)))) p))
+      ∙ (λ i. look (graft to (under from (same_tree i)) ++ cut to (put from (new-node i) (cut from (same_tree i)))) p))
 
   same-file : (i : ℕ) (f : File) → file_of (state st').files i ≡ some f → file_of was.files i ≡ some f
   same-file i f k =
       let y₀ = file-found st' (length st'.heads) 0 i f k in
       let e : i ≡ s → ⊥ = λ d. let z : kind_at st' i ≡ 1 = ap (kind_at st') d ∙ new-kind in omega (arith, z, y₀.kind) in
-      let w : fileAt st' i ≡ fileAt st i = rw (other-meta st st' old (lowered root a row x b s y) s (length y) h [] t l g i e, other-bytes st st' old (lowered root a row x b s y) s (length y) h [] t l g i e) refl in
-      file-there st n 0 i (omega arith) (omega (arith, g.counted.slots)) (sym (ap kind_of (other-head st st' old (lowered root a row x b s y) s (length y) h [] t l g i e)) ∙ y₀.kind)
+      let w : file_at st' i ≡ file_at st i = rw (other_meta st st' old (lowered root a row x b s y) s (length y) h [] t l g i e, other_bytes st st' old (lowered root a row x b s y) s (length y) h [] t l g i e) refl in
+      file_there st n 0 i (omega arith) (omega (arith, g.counted.slots)) (sym (ap kind_of (other_head st st' old (lowered root a row x b s y) s (length y) h [] t l g i e)) ∙ y₀.kind)
       ∙ ap some (sym w ∙ sym y₀.file)
 
   pub nested-spells : Spells st' (nested from y (new_meta (mode_of h) t) was)
@@ -90,9 +90,9 @@ module _ (st st' : Store) (root : Row) (a : List Row) (row : Row) (x b : List Ro
             (λ i. ap (λ (q : List Open). open_of q i) (same_opens st st' (suc (count st)) g.counted))
             (λ i f _ k. same-file i f k)
             (same_here st st' (suc (count st)) g.counted)
-            (same-mask st st' (suc (count st)) g.counted)
+            (same_mask st st' (suc (count st)) g.counted)
             (apart-give to (under from was.tree) (put from (dir (new_meta (mode_of h) t)) (cut from was.tree)) (apart_under from was.tree (lawful-shape st l).paths)
             (apart-put from (dir (new_meta (mode_of h) t)) (cut from was.tree) (apart-cut from was.tree (lawful-shape st l).paths)))
-            (same-most st st' (suc (count st)) g.counted)
-            (same-room st st' (suc (count st)) g.counted);
+            (same_most st st' (suc (count st)) g.counted)
+            (same_room st st' (suc (count st)) g.counted);
       }

@@ -22,7 +22,7 @@ use Rattle.model.proofs.Sound.Entries.{snoc-equal}
 use Rattle.layout.specs.Rows.{Row, path_of, tree_from}
 use Rattle.layout.specs.Lawful.{follows, walk_ok, rows_ok}
 use Rattle.layout.proofs.Rising.{Follows, aside, below, follows_by, by_follows}
-use Rattle.layout.proofs.Roots.{root-of}
+use Rattle.layout.proofs.Roots.{root_of}
 use Rattle.layout.proofs.Walks.{rest_ok}
 use Rattle.layout.specs.Parts.{path_after, dir_after, Behind, Between, Deeper, NotDeeper}
 use Rattle.layout.proofs.Edited.Blocked.{at_path, behind-start, behind-stand}
@@ -108,7 +108,7 @@ module _ (kind : ℕ → ℕ) (n : ℕ) where
   -- the root's path is the one before it
   root-after : (r : Row) (a b : List Row) → T (rows_ok kind n (r ∷ b)) → path_after [] (r ∷ a) ≡ path_after [] a
   unfolding path_after
-  root-after r a b t = ap (λ (p : Path). path_after p a) (root-of kind n r b t).path
+  root-after r a b t = ap (λ (p : Path). path_after p a) (root_of kind n r b t).path
 
   -- the second part of a walk from the root
   walk_from : (a b : List Row) → (a ≡ [] → ⊥) → T (rows_ok kind n (a ++ b)) → T (walk_ok kind n (path_after [] a) (dir_after kind false a) b)

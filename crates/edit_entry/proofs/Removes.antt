@@ -25,7 +25,7 @@ use Rattle.layout.specs.Lawful.{rows_ok, uses, held_from, Lawful}
 use Rattle.model.specs.Calls.States.{edited}
 use Rattle.layout.specs.Alike.{Spells}
 use Rattle.layout.proofs.Entered.{stood}
-use Rattle.layout.proofs.Roots.{root-of, all_slots}
+use Rattle.layout.proofs.Roots.{root_of, all_slots}
 use Rattle.layout.proofs.Slotted.{SlotOf, free, directory, named, removed, target, slot-of}
 use Rattle.layout.proofs.Used.{live-length}
 use Rattle.layout.proofs.Walks.{SlotsIn}
@@ -40,7 +40,7 @@ use Rattle.edit_entry.specs.Shrinkage.{stays, Shrunk}
 use Rattle.edit_entry.proofs.Shrinking.{shrunk-spells}
 use Rattle.edit_entry.specs.Clearing.{keeps_one, keeps_used, Cleared}
 use Rattle.edit_entry.specs.Removal.{Block, Removed}
-use Rattle.edit_entry.proofs.Clears.{stands-held, keep-here, keep-other}
+use Rattle.edit_entry.proofs.Clears.{stands-held, keep-here, keep_other}
 use Rattle.slots.proofs.Rowed.{uses-rows, words_within, used-once}
 use Rattle.edit_entry.proofs.Entries.{entry-depth, entry-slot, slot-low}
 
@@ -83,11 +83,11 @@ module _ (ws rs hs : List ℕ) (ts : List ℤ) (ps bs : Bytes) (i e : ℕ) (l : 
   abbrev pub all : List Row
   all = rows_of st
 
-  pub all-length : length all ≡ count st
-  all-length = length-rows (live st) bs ∙ live-length st l
+  pub all_length : length all ≡ count st
+  all_length = length-rows (live st) bs ∙ live-length st l
 
   pub part : Parts all i e
-  part = parts all i e block.first block.some (omega (arith, all-length, block.last))
+  part = parts all i e block.first block.some (omega (arith, all_length, block.last))
 
   abbrev pub root : Row
   root = part.root
@@ -134,18 +134,18 @@ module _ (ws rs hs : List ℕ) (ts : List ℤ) (ps bs : Bytes) (i e : ℕ) (l : 
   behind = subst (λ (d : ℕ). NotDeeper d b) (sym row-depth) block.behind
 
   pub long : length (row ∷ x) ≡ e - i
-  long = ap length (sym part.block) ∙ length-slice i e all (omega (arith, all-length, block.last))
+  long = ap length (sym part.block) ∙ length-slice i e all (omega (arith, all_length, block.last))
 
   pub entry-path : path_after [] (take (suc i) all) ≡ path_of (path_after [] a) row
   unfolding path_after
   entry-path =
       ap (path_after []) part.path
-      ∙ (ap (λ (p : Path). path_after p (a ++ (row ∷ []))) (root-of (kind_at st) (length hs) root (a ++ (row ∷ (x ++ b))) rules).path ∙ after_both [] a (row ∷ []))
+      ∙ (ap (λ (p : Path). path_after p (a ++ (row ∷ []))) (root_of (kind_at st) (length hs) root (a ++ (row ∷ (x ++ b))) rules).path ∙ after_both [] a (row ∷ []))
 
   -- ---- the slots
 
-  uses-all : (k : ℕ) → uses k all ≡ uses k (row ∷ x) + uses k left
-  uses-all k =
+  uses_all : (k : ℕ) → uses k all ≡ uses k (row ∷ x) + uses k left
+  uses_all k =
       ap (uses k) whole ∙ omega (arith, uses_both k (root ∷ a) (row ∷ (x ++ b)), uses_both k (row ∷ x) b, uses_both k (root ∷ a) b)
 
   uses-row : uses s (row ∷ x) ≡ 1 + uses s x
@@ -154,11 +154,11 @@ module _ (ws rs hs : List ℕ) (ts : List ℤ) (ps bs : Bytes) (i e : ℕ) (l : 
 
   -- what the file numbers stand on, by the new words
   module _ (ws' : List ℕ) (g : ws' ≡ set ws 2 (count st - (e - i))) where
-    same-holder : (j : ℕ) → get_or ws' (5 + 3 * j) 0 ≡ holder st j
-    same-holder j = ap (λ (y : List ℕ). get_or y (5 + 3 * j) 0) g ∙ get_or-set_other ws 2 (5 + 3 * j) (count st - (e - i)) 0 (λ z. omega arith)
+    same_holder : (j : ℕ) → get_or ws' (5 + 3 * j) 0 ≡ holder st j
+    same_holder j = ap (λ (y : List ℕ). get_or y (5 + 3 * j) 0) g ∙ get_or-set_other ws 2 (5 + 3 * j) (count st - (e - i)) 0 (λ z. omega arith)
 
     held : (k : ℕ) → stands_from ws' 32 0 k ≡ held_from st 32 0 k
-    held k = stands-held st ws' same-holder 32 0 k
+    held k = stands-held st ws' same_holder 32 0 k
 
     new-count : get_or ws' 2 0 ≡ count st - (e - i)
     new-count = ap (λ (y : List ℕ). get_or y 2 0) g ∙ get_or-set_same ws 2 (count st - (e - i)) 0 (omega (arith, l.exact.words))
@@ -169,8 +169,8 @@ module _ (ws rs hs : List ℕ) (ts : List ℤ) (ps bs : Bytes) (i e : ℕ) (l : 
       abbrev recs : List ℕ
       recs = take (count st - (e - i)) rs'
 
-      left-rows : rows recs bs₁ ≡ left
-      left-rows = c.all ∙ ap (λ (y : List Row). y ++ drop e all) part.front
+      left_rows : rows recs bs₁ ≡ left
+      left_rows = c.all ∙ ap (λ (y : List Row). y ++ drop e all) part.front
 
       module _ (hs' : List ℕ) (bs' : Bytes) (keep : ℕ → Bool) (cl : Cleared hs bs₁ hs' bs' keep) (keeps : (k : ℕ) → stays st left k ≡ true → keep k ≡ true)
           (frees : (k : ℕ) → stays st left k ≡ false → keep k ≡ true → get_or hs k 0 ≡ 0) where
@@ -180,7 +180,7 @@ module _ (ws rs hs : List ℕ) (ts : List ℤ) (ps bs : Bytes) (i e : ℕ) (l : 
         new-rows : rows_of st' ≡ left
         new-rows =
             ap (λ (n : ℕ). rows (take n rs') bs') new-count
-            ∙ (rows-front recs bs' bs₁ (cl.rest (name_total recs) (omega (arith, c.sum, c.byte_count, l.space, l.exact.bytes))) ∙ left-rows)
+            ∙ (rows-front recs bs' bs₁ (cl.rest (name_total recs) (omega (arith, c.sum, c.byte_count, l.space, l.exact.bytes))) ∙ left_rows)
 
         freed : (k : ℕ) → stays st left k ≡ false → (t : Bool) → keep k ≡ t → get_or hs' k 0 ≡ 0
         freed k h true t = cl.heads k t ∙ frees k h t
@@ -228,7 +228,7 @@ module _ (ws rs hs : List ℕ) (ts : List ℤ) (ps bs : Bytes) (i e : ℕ) (l : 
       )
 
       none_left : uses s left ≡ 0
-      none_left = omega (arith, uses-all s, uses-row, used-once st l s (slot-low st l i low))
+      none_left = omega (arith, uses_all s, uses-row, used-once st l s (slot-low st l i low))
 
       stays_here : stays st left s ≡ keeps_one ws' s s
       stays_here =
@@ -244,9 +244,9 @@ module _ (ws rs hs : List ℕ) (ts : List ℤ) (ps bs : Bytes) (i e : ℕ) (l : 
       unused-free k u h (target e y v w) = absurd (omega arith)
 
       module _ (one : e - i ≡ 1) where
-        uses-other : (k : ℕ) → (k ≡ s → ⊥) → uses k (row ∷ x) ≡ 0
+        uses_other : (k : ℕ) → (k ≡ s → ⊥) → uses k (row ∷ x) ≡ 0
         unfolding uses
-        uses-other k d =
+        uses_other k d =
             let n : e ≡ suc i = omega (arith, one) in
             let y : x ≡ [] = ap (λ (m : ℕ). drop (suc i) (take m all)) n ∙ none_between all (suc i) in
             rw (ne_eqb row.slot k (λ z. d (sym z ∙ row-slot)), y) refl
@@ -254,7 +254,7 @@ module _ (ws rs hs : List ℕ) (ts : List ℤ) (ps bs : Bytes) (i e : ℕ) (l : 
         free-before : (k : ℕ) → stays st left k ≡ false → (k ≡ s → ⊥) → (t : Bool) → ltb k (length hs) ≡ t → get_or hs k 0 ≡ 0
         free-before k h d true t =
             let z = unused (uses k left) (held_from st 32 0 k) h in
-            unused-free k (omega (arith, uses-all k, uses-other k d, z.0)) z.1 (slot-of st k (l.slots k (ltb-true k (length hs) t)))
+            unused-free k (omega (arith, uses_all k, uses_other k d, z.0)) z.1 (slot-of st k (l.slots k (ltb-true k (length hs) t)))
         free-before k h d false t = get_or-eq_default hs 0 {n = k} (ltb-false k (length hs) t)
 
         pub removed-one : (t : ℕ) → t ≡ s → (hs' : List ℕ) (bs' : Bytes) → Cleared hs bs₁ hs' bs' (keeps_one ws' t) → Removed st (lent ws' rs' hs' ts ps bs') i e
@@ -262,7 +262,7 @@ module _ (ws rs hs : List ℕ) (ts : List ℤ) (ps bs : Bytes) (i e : ℕ) (l : 
           where
             kept : (k : ℕ) → stays st left k ≡ true → Dec (k ≡ s) → keeps_one ws' s k ≡ true
             kept k h (yes z) = ap (keeps_one ws' s) z ∙ (sym stays_here ∙ (ap (stays st left) (sym z) ∙ h))
-            kept k h (no z) = keep-other ws' s k z
+            kept k h (no z) = keep_other ws' s k z
 
             gone : (k : ℕ) → stays st left k ≡ false → keeps_one ws' s k ≡ true → Dec (k ≡ s) → get_or hs k 0 ≡ 0
             gone k h t (yes z) = absurd (false≢true (sym h ∙ (ap (stays st left) z ∙ (stays_here ∙ (ap (keeps_one ws' s) (sym z) ∙ t)))))
@@ -271,7 +271,7 @@ module _ (ws rs hs : List ℕ) (ts : List ℤ) (ps bs : Bytes) (i e : ℕ) (l : 
       -- ---- more
 
       used-left : (k : ℕ) → uses_in k recs ≡ uses k left
-      used-left k = sym (uses-rows k recs bs₁) ∙ ap (uses k) left-rows
+      used-left k = sym (uses-rows k recs bs₁) ∙ ap (uses k) left_rows
 
       stays-used : (k : ℕ) → stays st left k ≡ keeps_used ws' recs k
       unfolding keeps_used
@@ -282,15 +282,15 @@ module _ (ws rs hs : List ℕ) (ts : List ℤ) (ps bs : Bytes) (i e : ℕ) (l : 
       stood_on j h (no z) = omega (arith, (stood st l j h z).low, l.exact.heads, l.slotted, l.entry_limit.1)
 
       left-slots : SlotsIn (length hs) (rows recs bs₁)
-      left-slots = subst (SlotsIn (length hs)) (sym left-rows) (all_slots (kind_at st) (length hs) left (rows_cut (kind_at st) (length hs) root a row x b rules below behind))
+      left-slots = subst (SlotsIn (length hs)) (sym left_rows) (all_slots (kind_at st) (length hs) left (rows_cut (kind_at st) (length hs) root a row x b rules below behind))
 
       pub may-free-unused : (101 ≤ length ws') × Standing ws' × (length hs ≤ 4128) × Within (length hs) recs × ((k : ℕ) → k < length hs → uses_in k recs ≤ 1) × (total hs ≤ length bs₁)
       may-free-unused = (
         omega (arith, (may-free-one s refl).0),
-        (λ j h. subst (λ (y : ℕ). y ≤ 4128) (sym (same-holder j)) (stood_on j h (ℕ_discrete (holder st j) 0))),
+        (λ j h. subst (λ (y : ℕ). y ≤ 4128) (sym (same_holder j)) (stood_on j h (ℕ_discrete (holder st j) 0))),
         (may-free-one s refl).2,
         words_within (length hs) recs bs₁ left-slots,
-        (λ k h. omega (arith, used-left k, uses-all k, used-once st l k h)),
+        (λ k h. omega (arith, used-left k, uses_all k, used-once st l k h)),
         (may-free-one s refl).3,
       )
 

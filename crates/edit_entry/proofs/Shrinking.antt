@@ -22,12 +22,12 @@ use Rattle.layout.specs.Store.{Store, room, count, rows_of, meta_at, bytes_at, k
 use Rattle.layout.specs.Lawful.{rows_ok, uses, held_from, slot_by, slot_ok, Lawful}
 use Rattle.layout.specs.Alike.{Spells}
 use Rattle.layout.proofs.Slotted.{SlotOf, free, directory, named, removed, target, slot-of}
-use Rattle.layout.proofs.Tables.{file-found, file-there}
+use Rattle.layout.proofs.Tables.{file-found, file_there}
 use Rattle.layout.proofs.Edited.Parted.{Has, uses_both, tree-slots, rows-slots}
 use Rattle.layout.proofs.Edited.Shapes.{lawful-shape}
 use Rattle.layout.proofs.Edited.Telling.{same_alike}
 use Rattle.edit_entry.specs.Shrinkage.{stays, Shrunk}
-use Rattle.edit_entry.proofs.Counted.{same-most, same-room, same-extent, same-mask, new-count, same-held, same_opens, same_here, here-ok, number_ok_lem}
+use Rattle.edit_entry.proofs.Counted.{same_most, same_room, same_extent, same_mask, new-count, same_held, same_opens, same_here, here-ok, number_ok_lem}
 use Rattle.edit_entry.proofs.Adding.{node_same, slot_same}
 
 module _ (st st' : Store) (a x b : List Row) (l : Lawful st) (g : Shrunk st st' a x b) where
@@ -39,19 +39,19 @@ module _ (st st' : Store) (a x b : List Row) (l : Lawful st) (g : Shrunk st st' 
 
   -- ---- the slots
 
-  uses-all : (k : ℕ) → uses k (rows_of st) ≡ uses k x + uses k left
-  uses-all k =
+  uses_all : (k : ℕ) → uses k (rows_of st) ≡ uses k x + uses k left
+  uses_all k =
       ap (uses k) g.old ∙ omega (arith, uses_both k a (x ++ b), uses_both k x b, uses_both k a b)
 
-  has-stays : (k : ℕ) → Has left k → stays st left k ≡ true
-  has-stays k u = ap (λ (y : Bool). y || held_from st 32 0 k) (lt-ltb 0 (uses k left) u)
+  has_stays : (k : ℕ) → Has left k → stays st left k ≡ true
+  has_stays k u = ap (λ (y : Bool). y || held_from st 32 0 k) (lt-ltb 0 (uses k left) u)
 
   none_left : (k : ℕ) → stays st left k ≡ false → uses k left ≡ 0
   none_left k e = go (uses k left) refl
     where
       go : (i : ℕ) → uses k left ≡ i → uses k left ≡ 0
       go zero z = z
-      go (suc i) z = absurd (false≢true (sym e ∙ has-stays k (omega (arith, z))))
+      go (suc i) z = absurd (false≢true (sym e ∙ has_stays k (omega (arith, z))))
 
   -- a slot that no entry has any more stays for a file number
   stays-held : (k : ℕ) → T (stays st left k) → uses k left ≡ 0 → T (held_from st 32 0 k)
@@ -66,12 +66,12 @@ module _ (st st' : Store) (a x b : List Row) (l : Lawful st) (g : Shrunk st st' 
   Rule k = T (slot_by (kind_at st k) (get_or st.heads k 0) (uses k left) (held_from st 32 0 k) (bytes_at st k))
 
   lost-slot : (k : ℕ) → T (stays st left k) → 1 ≤ uses k x → SlotOf st k → Rule k
-  lost-slot k t u (free e h v w) = absurd (omega (arith, uses-all k))
-  lost-slot k t u (directory e h v w) = absurd (w (stays-held k t (omega (arith, uses-all k))))
-  lost-slot k t u (removed e v w) = absurd (omega (arith, uses-all k))
-  lost-slot k t u (target e h v w) = absurd (w (stays-held k t (omega (arith, uses-all k))))
+  lost-slot k t u (free e h v w) = absurd (omega (arith, uses_all k))
+  lost-slot k t u (directory e h v w) = absurd (w (stays-held k t (omega (arith, uses_all k))))
+  lost-slot k t u (removed e v w) = absurd (omega (arith, uses_all k))
+  lost-slot k t u (target e h v w) = absurd (w (stays-held k t (omega (arith, uses_all k))))
   lost-slot k t u (named e v) =
-      let z : uses k left ≡ 0 = omega (arith, uses-all k) in
+      let z : uses k left ≡ 0 = omega (arith, uses_all k) in
       let y : held_from st 32 0 k ≡ true = is_true _ (stays-held k t z) in
       subst T (sym (slot_same e refl z y refl)) tt
 
@@ -80,38 +80,38 @@ module _ (st st' : Store) (a x b : List Row) (l : Lawful st) (g : Shrunk st st' 
     where
       go : (i : ℕ) → uses k x ≡ i → Rule k
       go zero e =
-          let z : uses k (rows_of st) ≡ uses k left = omega (arith, e, uses-all k) in
+          let z : uses k (rows_of st) ≡ uses k left = omega (arith, e, uses_all k) in
           subst (λ (u : ℕ). T (slot_by (kind_at st k) (get_or st.heads k 0) u (held_from st 32 0 k) (bytes_at st k))) z (l.slots k n)
       go (suc i) e = lost-slot k t (omega (arith, e)) (slot-of st k (l.slots k n))
 
   slots-ok : (k : ℕ) → k < length st.heads → (y : Bool) → stays st left k ≡ y → T (slot_ok st' k)
   slots-ok k n true e =
       subst T
-      (sym (slot_same (ap kind_of (g.kept_head k e)) (g.kept_head k e) (ap (uses k) g.new) (same-held st st' c g.counted 32 0 k) (g.kept_bytes k e)))
+      (sym (slot_same (ap kind_of (g.kept_head k e)) (g.kept_head k e) (ap (uses k) g.new) (same_held st st' c g.counted 32 0 k) (g.kept_bytes k e)))
       (kept_slot k n (of_true e))
   slots-ok k n false e =
       let h = g.freed k e in
       let u : uses k left ≡ 0 = none_left k e in
       let w : held_from st 32 0 k ≡ false = is_false _ (λ y. false≢true (sym e ∙ is_true _ (or_right (ltb 0 (uses k left)) _ y))) in
-      subst T (sym (slot_same (ap kind_of h) h (ap (uses k) g.new ∙ u) (same-held st st' c g.counted 32 0 k ∙ w) refl)) tt
+      subst T (sym (slot_same (ap kind_of h) h (ap (uses k) g.new ∙ u) (same_held st st' c g.counted 32 0 k ∙ w) refl)) tt
 
   -- ---- the entries that are left
 
   same_kind : (k : ℕ) → Has left k → kind_at st k ≡ kind_at st' k
-  same_kind k u = sym (ap kind_of (g.kept_head k (has-stays k u)))
+  same_kind k u = sym (ap kind_of (g.kept_head k (has_stays k u)))
 
-  same-meta : (k : ℕ) → stays st left k ≡ true → meta_at st' k ≡ meta_at st k
-  same-meta k e = rw (g.kept_head k e, g.times) refl
+  same_meta : (k : ℕ) → stays st left k ≡ true → meta_at st' k ≡ meta_at st k
+  same_meta k e = rw (g.kept_head k e, g.times) refl
 
-  same-node : (k : ℕ) → Has left k → node_at st' k ≡ node_at st k
-  same-node k u = node_same k (sym (same_kind k u)) (same-meta k (has-stays k u)) (g.kept_bytes k (has-stays k u))
+  same_node : (k : ℕ) → Has left k → node_at st' k ≡ node_at st k
+  same_node k u = node_same k (sym (same_kind k u)) (same_meta k (has_stays k u)) (g.kept_bytes k (has_stays k u))
 
   pub shrunk-lawful : T (rows_ok (kind_at st) (length st.heads) left) → Lawful st'
   shrunk-lawful rs =
       let r = g.counted in
-      let most-same = same-most st st' c r in
-      let room_same = same-room st st' c r in
-      let extent-same = same-extent st st' c r in
+      let most-same = same_most st st' c r in
+      let room_same_lem = same_room st st' c r in
+      let extent-same = same_extent st st' c r in
       let old = l.exact in
       record {
         exact =
@@ -121,13 +121,13 @@ module _ (st st' : Store) (a x b : List Row) (l : Lawful st) (g : Shrunk st st' 
               heads = r.slots ∙ (old.heads ∙ sym extent-same);
               times = ap length g.times ∙ (old.times ∙ ap (λ (k : ℕ). 4 * slots_for k) (sym most-same));
               paths = ap length r.paths ∙ old.paths;
-              bytes = g.bytes ∙ (old.bytes ∙ sym room_same);
+              bytes = g.bytes ∙ (old.bytes ∙ sym room_same_lem);
             };
         entry_limit = rw most-same l.entry_limit;
-        byte_limit = rw room_same l.byte_limit;
+        byte_limit = rw room_same_lem l.byte_limit;
         counted = rw (new-count st st' c r (omega (arith, old.words)), most-same) (omega (arith, l.counted));
         slotted = rw (extent-same, most-same) l.slotted;
-        space = rw room_same (omega (arith, g.names, g.room, l.space));
+        space = rw room_same_lem (omega (arith, g.names, g.room, l.space));
         entries =
             subst (λ (k : ℕ). T (rows_ok (kind_at st') k (rows_of st'))) (sym r.slots)
             (subst (λ (y : List Row). T (rows_ok (kind_at st') (length st.heads) y)) (sym g.new)
@@ -135,7 +135,7 @@ module _ (st st' : Store) (a x b : List Row) (l : Lawful st) (g : Shrunk st st' 
         slots = λ k n. slots-ok k (subst (λ (i : ℕ). k < i) r.slots n) (stays st left k) refl;
         numbers = λ n k. number_ok_lem st st' c r n (l.numbers n k);
         here = here-ok st st' c r l.here;
-        umask = rw (same-mask st st' c r) l.umask;
+        umask = rw (same_mask st st' c r) l.umask;
       }
 
   -- ---- the state
@@ -146,8 +146,8 @@ module _ (st st' : Store) (a x b : List Row) (l : Lawful st) (g : Shrunk st st' 
       go : (y : Bool) → stays st left i ≡ y → file_of (state st).files i ≡ some f
       go true z =
           let h = file-found st' (length st'.heads) 0 i f e in
-          file-there st (length st.heads) 0 i (omega arith) (omega (arith, g.counted.slots)) (sym (ap kind_of (g.kept_head i z)) ∙ h.kind)
-          ∙ ap some (rw (← same-meta i z, ← g.kept_bytes i z) (sym h.file))
+          file_there st (length st.heads) 0 i (omega arith) (omega (arith, g.counted.slots)) (sym (ap kind_of (g.kept_head i z)) ∙ h.kind)
+          ∙ ap some (rw (← same_meta i z, ← g.kept_bytes i z) (sym h.file))
       go false z =
           let h = file-found st' (length st'.heads) 0 i f e in
           absurd (let d : kind_at st' i ≡ 0 = ap kind_of (g.freed i z) in omega (arith, h.kind))
@@ -163,13 +163,13 @@ module _ (st st' : Store) (a x b : List Row) (l : Lawful st) (g : Shrunk st st' 
             same_alike (state st') (state st) (apply (remove p) (world_of (state st))) (lawful-shape st' after)
             (λ q.
             ap (λ (y : List Row). look (tree_from (node_at st') [] y) q) g.new
-            ∙ (ap (λ (y : Entries). look y q) (tree-slots (node_at st') (node_at st) [] left same-node)
+            ∙ (ap (λ (y : Entries). look y q) (tree-slots (node_at st') (node_at st) [] left same_node)
             ∙ (h q ∙ ap (λ (y : List Row). look (cut p (tree_from (node_at st) [] y)) q) (sym g.old))))
             (λ n. ap (λ (y : List Open). open_of y n) (same_opens st st' c g.counted))
             (λ i f _ e. old-file i f e)
             (same_here st st' c g.counted)
-            (same-mask st st' c g.counted)
+            (same_mask st st' c g.counted)
             (apart-cut p (state st).tree (lawful-shape st l).paths)
-            (same-most st st' c g.counted)
-            (same-room st st' c g.counted);
+            (same_most st st' c g.counted)
+            (same_room st st' c g.counted);
       }

@@ -52,13 +52,13 @@ split-end (h ∷ hs) (suc n) (suc k) s l = split-end hs n k (drop (len_of h) s) 
 
 -- the same entries, by another number of slots that has their slots
 module _ (kind kind' : ℕ → ℕ) (n n' : ℕ) (same : (k : ℕ) → kind k ≡ kind' k) where
-  walk-other : (p : Path) (d : Bool) (ws : List ℕ) (bs : Bytes) → Within n' ws → T (walk_ok kind n p d (rows ws bs)) → T (walk_ok kind' n' p d (rows ws bs))
+  walk_other : (p : Path) (d : Bool) (ws : List ℕ) (bs : Bytes) → Within n' ws → T (walk_ok kind n p d (rows ws bs)) → T (walk_ok kind' n' p d (rows ws bs))
   unfolding walk_ok rows
-  walk-other p d [] bs w h = tt
-  walk-other p d (r ∷ ws) bs w h =
+  walk_other p d [] bs w h = tt
+  walk_other p d (r ∷ ws) bs w h =
       let a = row_at bs r 0 in
       let more = walk_ok kind n (path_of p a) (eqb (kind (slot_of r)) 1) (rows ws (drop (nlen_of r) bs)) in
-      let rest = walk-other (path_of p a) (eqb (kind (slot_of r)) 1) ws (drop (nlen_of r) bs) (λ i l. w (suc i) (omega arith)) (and_right (entry_ok n p d a) more h) in
+      let rest = walk_other (path_of p a) (eqb (kind (slot_of r)) 1) ws (drop (nlen_of r) bs) (λ i l. w (suc i) (omega arith)) (and_right (entry_ok n p d a) more h) in
       and_both (entry_ok n' p d a) (walk_ok kind' n' (path_of p a) (eqb (kind' (slot_of r)) 1) (rows ws (drop (nlen_of r) bs)))
       (and_both (ltb (slot_of r) n') (name_ok a.name && follows p d a.depth a.name) (subst T (sym (lt-ltb (slot_of r) n' (w 0 (omega arith)))) tt)
       (and_right (ltb (slot_of r) n) (name_ok a.name && follows p d a.depth a.name) (and_left (entry_ok n p d a) more h)))
@@ -78,7 +78,7 @@ module _ (kind kind' : ℕ → ℕ) (n n' : ℕ) (same : (k : ℕ) → kind k �
       (and_both (eqb a.depth 0) (is_nil a.name && (ltb s n' && eqb (kind' s) 1)) (and_left (eqb a.depth 0) (is_nil a.name && (ltb s n && eqb (kind s) 1)) root)
       (and_both (is_nil a.name) (ltb s n' && eqb (kind' s) 1) (and_left (is_nil a.name) (ltb s n && eqb (kind s) 1) at)
       (and_both (ltb s n') (eqb (kind' s) 1) (subst T (sym (lt-ltb s n' (w 0 (omega arith)))) tt) (subst (λ (x : ℕ). T (eqb x 1)) (same s) dir))))
-      (walk-other [] true ws (drop (nlen_of r) bs) (λ i l. w (suc i) (omega arith)) (and_right (root_ok kind n a) more h))
+      (walk_other [] true ws (drop (nlen_of r) bs) (λ i l. w (suc i) (omega arith)) (and_right (root_ok kind n a) more h))
 
 -- ---- file numbers
 
@@ -133,9 +133,9 @@ module _ (words recs heads : List ℕ) (paths bs : Bytes) (n : ℕ) (l : n ≤ l
   pub same_bytes : (k : ℕ) → k < n → get_or (contents (take n heads) bs) k [] ≡ get_or (contents heads bs) k []
   same_bytes k h = split-end heads n k (drop (start (take n heads) bs) bs) h ∙ ap (λ (t : ℕ). get_or (split heads (drop (length bs - t) bs)) k []) (total-end heads n z)
 
-  same-slot : (k : ℕ) → k < n → slot_by (kind_of (get_or (take n heads) k 0)) (get_or (take n heads) k 0) (uses_in k recs) (stands_from words 32 0 k) (get_or (contents (take n heads) bs) k [])
+  same_slot : (k : ℕ) → k < n → slot_by (kind_of (get_or (take n heads) k 0)) (get_or (take n heads) k 0) (uses_in k recs) (stands_from words 32 0 k) (get_or (contents (take n heads) bs) k [])
       ≡ slot_by (kind_of (get_or heads k 0)) (get_or heads k 0) (uses_in k recs) (stands_from words 32 0 k) (get_or (contents heads bs) k [])
-  same-slot k h =
+  same_slot k h =
       ap (λ (x : ℕ). slot_by (kind_of x) x (uses_in k recs) (stands_from words 32 0 k) (get_or (contents (take n heads) bs) k [])) (same_word k)
       ∙ ap (λ (s : Bytes). slot_by (kind_of (get_or heads k 0)) (get_or heads k 0) (uses_in k recs) (stands_from words 32 0 k) s) (same_bytes k h)
 
@@ -155,7 +155,7 @@ module _ (words recs heads : List ℕ) (paths bs : Bytes) (n : ℕ) (l : n ≤ l
       stands j h = omega (arith, long, number-stands words paths (length (take n heads)) j (p.kept.numbers j h))
 
       go : (k : ℕ) (t : Bool) → ltb k n ≡ t → T (slot_by (kind_of (get_or heads k 0)) (get_or heads k 0) (uses_in k recs) (stands_from words 32 0 k) (get_or (contents heads bs) k []))
-      go k true e = subst T (same-slot k (ltb-true k n e)) (p.slots k (omega (arith, long, ltb-true k n e)))
+      go k true e = subst T (same_slot k (ltb-true k n e)) (p.slots k (omega (arith, long, ltb-true k n e)))
       go k false e =
           let h : n ≤ k = ltb-false k n e in
           slot_none (get_or heads k 0) (uses_in k recs) (stands_from words 32 0 k) (get_or (contents heads bs) k []) (z k h) (uses_none n k recs within h) (stands_none words n k 32 0 h (λ j a b. stands j (omega arith)))
@@ -166,7 +166,7 @@ module _ (words recs heads : List ℕ) (paths bs : Bytes) (n : ℕ) (l : n ≤ l
     space = omega (arith, p.space, total-end heads n z);
     entries = rows_other (kind_in heads) (kind_in (take n heads)) (length heads) (length (take n heads)) (λ k. ap kind_of (sym (same_word k))) recs bs (λ i h. omega (arith, long, within i h)) p.entries;
     kept = record { numbers = λ j h. number_other words paths (length heads) (length (take n heads)) j (omega (arith, long, stands j h)) (p.kept.numbers j h); here = p.kept.here };
-    slots = λ k h. subst T (sym (same-slot k (omega (arith, long)))) (p.slots k (omega (arith, long)));
+    slots = λ k h. subst T (sym (same_slot k (omega (arith, long)))) (p.slots k (omega (arith, long)));
   }
     where
       -- nothing has a slot behind

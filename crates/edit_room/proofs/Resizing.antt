@@ -43,8 +43,8 @@ module _ (ws rs hs : List ℕ) (ts : List ℤ) (ps bs : Bytes) (r : Roomy (lent 
 
   -- ---- no slot more
 
-  pub reserved-none : slots_for (most st) ≤ n → Reserved st st
-  reserved-none h = record {
+  pub reserved_none : slots_for (most st) ≤ n → Reserved st st
+  reserved_none h = record {
     resized = record { roomy = r; same = refl; words = λ i x. refl };
     free = λ c. not_full (trim st) r.lawful h c;
     heads = λ k x. refl;

@@ -18,7 +18,7 @@ use Rattle.layout.specs.Slots.{split, contents, start}
 use Rattle.layout.specs.Store.{Store, most, room, extent, slots_for, live, rows_of, meta_at, bytes_at, kind_at, node_by, node_at, files_from, state}
 use Rattle.layout.specs.Lawful.{slot_by, Lawful}
 use Rattle.slots.specs.Uses.{uses_in, stands_from}
-use Rattle.layout.proofs.Edited.Numbers.{opens-same}
+use Rattle.layout.proofs.Edited.Numbers.{opens_same}
 use Rattle.lawful.specs.Parts.{kept_in, number_in, Parts}
 use Rattle.lawful.proofs.Whole.{parts-lawful, lawful-parts, lawful-limits}
 use Rattle.edit_room.proofs.Ending.{more, less, same_word, same_bytes}
@@ -93,11 +93,11 @@ module _ (a b : Store) (w : Wider a b) where
   same_rows : rows_of b ≡ rows_of a
   same_rows = λ j. rows (same_live j) (w.bytes j)
 
-  head-same : (k : ℕ) → get_or b.heads k 0 ≡ get_or a.heads k 0
-  head-same k = sym (same_word a.words [] b.heads [] [] n w.low w.zeros k) ∙ ap (λ (hs : List ℕ). get_or hs k 0) w.front
+  head_same : (k : ℕ) → get_or b.heads k 0 ≡ get_or a.heads k 0
+  head_same k = sym (same_word a.words [] b.heads [] [] n w.low w.zeros k) ∙ ap (λ (hs : List ℕ). get_or hs k 0) w.front
 
-  meta-same : (k : ℕ) → meta_at b k ≡ meta_at a k
-  meta-same k = λ j. record { mode = mode_of (head-same k j); accessed = get_or (w.times j) (4 * k) (pos 0); changed = get_or (w.times j) (4 * k + 1) (pos 0); created = get_or (w.times j) (4 * k + 2) (pos 0); modified = get_or (w.times j) (4 * k + 3) (pos 0) }
+  meta_same : (k : ℕ) → meta_at b k ≡ meta_at a k
+  meta_same k = λ j. record { mode = mode_of (head_same k j); accessed = get_or (w.times j) (4 * k) (pos 0); changed = get_or (w.times j) (4 * k + 1) (pos 0); created = get_or (w.times j) (4 * k + 2) (pos 0); modified = get_or (w.times j) (4 * k + 3) (pos 0) }
 
   bytes_same : (k : ℕ) → bytes_at b k ≡ bytes_at a k
   bytes_same k = go (ltb k n) refl
@@ -109,27 +109,27 @@ module _ (a b : Store) (w : Wider a b) where
       go false e =
           let z = w.zeros k (ltb-false k n e) in
           split_none b.heads k (drop (start b.heads b.bytes) b.bytes) z
-          ∙ sym (split_none a.heads k (drop (start a.heads a.bytes) a.bytes) (sym (head-same k) ∙ z))
+          ∙ sym (split_none a.heads k (drop (start a.heads a.bytes) a.bytes) (sym (head_same k) ∙ z))
 
   node_same : (k : ℕ) → node_at b k ≡ node_at a k
-  node_same k = λ j. node_by (kind_of (head-same k j)) k (meta-same k j) (bytes_same k j)
+  node_same k = λ j. node_by (kind_of (head_same k j)) k (meta_same k j) (bytes_same k j)
 
-  files-same : (m k : ℕ) → files_from b m k ≡ files_from a m k
+  files_same : (m k : ℕ) → files_from b m k ≡ files_from a m k
   unfolding files_from
-  files-same zero k = refl
-  files-same (suc m) k = λ j. keep_if (eqb (kind_of (head-same k j)) 2) (k, record { meta = meta-same k j; bytes = bytes_same k j }) (files-same m (suc k) j)
+  files_same zero k = refl
+  files_same (suc m) k = λ j. keep_if (eqb (kind_of (head_same k j)) 2) (k, record { meta = meta_same k j; bytes = bytes_same k j }) (files_same m (suc k) j)
 
-  all-files : files_from b (length b.heads) 0 ≡ files_from a n 0
-  all-files =
-      files-same (length b.heads) 0
-      ∙ files-end a n (length b.heads - n) 0 (λ i h. ap kind_of (sym (head-same i) ∙ w.zeros i (omega arith))) (length b.heads) (omega (arith, w.low))
+  all_files : files_from b (length b.heads) 0 ≡ files_from a n 0
+  all_files =
+      files_same (length b.heads) 0
+      ∙ files-end a n (length b.heads - n) 0 (λ i h. ap kind_of (sym (head_same i) ∙ w.zeros i (omega arith))) (length b.heads) (omega (arith, w.low))
 
   pub wider-state : state b ≡ state a
   wider-state = λ j.
       record {
         tree = tree_from (λ k. node_same k j) [] (same_rows j);
-        files = all-files j;
-        opens = opens-same a b (λ i l h. w.words i h) w.paths j;
+        files = all_files j;
+        opens = opens_same a b (λ i l h. w.words i h) w.paths j;
         here = names (take (w.words 4 (omega arith) j) (drop 0 (w.paths j)));
         mask = w.words 3 (omega arith) j;
         most = w.words 0 (omega arith) j;
@@ -138,11 +138,11 @@ module _ (a b : Store) (w : Wider a b) where
 
   -- ---- both are stores, or neither is
 
-  same-most : most b ≡ most a
-  same-most = w.words 0 (omega arith)
+  same_most : most b ≡ most a
+  same_most = w.words 0 (omega arith)
 
-  same-room : room b ≡ room a
-  same-room = w.words 1 (omega arith)
+  same_room : room b ≡ room a
+  same_room = w.words 1 (omega arith)
 
   pub wider-lawful : extent b ≡ length b.heads → length b.heads ≤ slots_for (most a) → Lawful a → Lawful b
   wider-lawful x s l =
@@ -154,19 +154,19 @@ module _ (a b : Store) (w : Wider a b) where
       parts-lawful b
       (record {
         words = w.long ∙ e.words;
-        records = ap length w.records ∙ (e.records ∙ sym same-most);
+        records = ap length w.records ∙ (e.records ∙ sym same_most);
         heads = sym x;
-        times = ap length w.times ∙ (e.times ∙ ap (λ (k : ℕ). 4 * slots_for k) (sym same-most));
+        times = ap length w.times ∙ (e.times ∙ ap (λ (k : ℕ). 4 * slots_for k) (sym same_most));
         paths = ap length w.paths ∙ e.paths;
-        bytes = ap length w.bytes ∙ (e.bytes ∙ sym same-room);
+        bytes = ap length w.bytes ∙ (e.bytes ∙ sym same_room);
       })
       (record {
         words = omega (arith, w.long, m.words);
-        entry_limit = (omega (arith, same-most, m.entry_limit.0), omega (arith, same-most, m.entry_limit.1));
-        byte_limit = (omega (arith, same-room, m.byte_limit.0), omega (arith, same-room, m.byte_limit.1));
-        counted = omega (arith, same-most, w.words 2 (omega arith), m.counted);
+        entry_limit = (omega (arith, same_most, m.entry_limit.0), omega (arith, same_most, m.entry_limit.1));
+        byte_limit = (omega (arith, same_room, m.byte_limit.0), omega (arith, same_room, m.byte_limit.1));
+        counted = omega (arith, same_most, w.words 2 (omega arith), m.counted);
         umask = omega (arith, w.words 3 (omega arith), m.umask);
-        slotted = omega (arith, x, s, same-most);
+        slotted = omega (arith, x, s, same_most);
       })
       (parts-words a.words b.words w.words (live b) b.heads b.paths b.bytes
       (subst (λ (x : Type 0). x) (λ j. Parts a.words (sym same_live j) b.heads (sym w.paths j) (sym w.bytes j)) p))
@@ -180,19 +180,19 @@ module _ (a b : Store) (w : Wider a b) where
       parts-lawful a
       (record {
         words = sym w.long ∙ e.words;
-        records = ap length (sym w.records) ∙ (e.records ∙ same-most);
+        records = ap length (sym w.records) ∙ (e.records ∙ same_most);
         heads = sym x;
-        times = ap length (sym w.times) ∙ (e.times ∙ ap (λ (k : ℕ). 4 * slots_for k) same-most);
+        times = ap length (sym w.times) ∙ (e.times ∙ ap (λ (k : ℕ). 4 * slots_for k) same_most);
         paths = ap length (sym w.paths) ∙ e.paths;
-        bytes = ap length (sym w.bytes) ∙ (e.bytes ∙ same-room);
+        bytes = ap length (sym w.bytes) ∙ (e.bytes ∙ same_room);
       })
       (record {
         words = omega (arith, w.long, m.words);
-        entry_limit = (omega (arith, same-most, m.entry_limit.0), omega (arith, same-most, m.entry_limit.1));
-        byte_limit = (omega (arith, same-room, m.byte_limit.0), omega (arith, same-room, m.byte_limit.1));
-        counted = omega (arith, same-most, w.words 2 (omega arith), m.counted);
+        entry_limit = (omega (arith, same_most, m.entry_limit.0), omega (arith, same_most, m.entry_limit.1));
+        byte_limit = (omega (arith, same_room, m.byte_limit.0), omega (arith, same_room, m.byte_limit.1));
+        counted = omega (arith, same_most, w.words 2 (omega arith), m.counted);
         umask = omega (arith, w.words 3 (omega arith), m.umask);
-        slotted = omega (arith, x, w.low, e.heads, l.slotted, same-most);
+        slotted = omega (arith, x, w.low, e.heads, l.slotted, same_most);
       })
       (parts-words b.words a.words (λ i h. sym (w.words i h)) (live a) a.heads a.paths a.bytes
       (subst (λ (x : Type 0). x) (λ j. Parts b.words (same_live j) (w.front j) (w.paths j) (w.bytes j)) p))

@@ -29,9 +29,9 @@ use Rattle.layout.specs.Lawful.{rows_ok, uses, held_from, slot_by, slot_ok, kept
 use Rattle.layout.specs.Alike.{Spells}
 use Rattle.layout.proofs.Walks.{At, look_at, at_uses, at_once}
 use Rattle.layout.proofs.Roots.{all-look}
-use Rattle.layout.proofs.Tables.{fileAt, file-found, open_at, open_there}
-use Rattle.layout.proofs.Slotted.{SlotOf, free, directory, named, removed, target, dir_at, file_at, link_at}
-use Rattle.layout.proofs.Entered.{slot, has-file, stood}
+use Rattle.layout.proofs.Tables.{file_at, file-found, open_at, open_there}
+use Rattle.layout.proofs.Slotted.{SlotOf, free, directory, named, removed, target, dir_at, file_at_lem, link_at}
+use Rattle.layout.proofs.Entered.{slot, has_file, stood}
 use Rattle.layout.proofs.Edited.Numbers.{held_kept, opens_kept}
 use Rattle.layout.proofs.Edited.Telling.{same_alike}
 use Rattle.layout.proofs.Edited.Shapes.{lawful-shape}
@@ -82,9 +82,9 @@ module _ (c : Change) (st : Store) (hs : List ℕ) (ts : List ℤ) (bs : Bytes) 
     pub rows : rows_of u ≡ rows_of st
     pub space : name_total (live st) + total hs ≤ room st
     pub word : (i : ℕ) → (i ≡ k → ⊥) → get_or hs i 0 ≡ get_or st.heads i 0
-    pub others : (i : ℕ) → (i ≡ k → ⊥) → fileAt u i ≡ fileAt st i
+    pub others : (i : ℕ) → (i ≡ k → ⊥) → file_at u i ≡ file_at st i
     pub kind : kind_at u k ≡ kind_at st k
-    pub self : fileAt u k ≡ change_file c (fileAt st k)
+    pub self : file_at u k ≡ change_file c (file_at st k)
     pub plain : (kind_at st k ≡ 2 → ⊥) → (len_of (get_or hs k 0) ≡ len_of (get_or st.heads k 0)) × (bytes_at u k ≡ bytes_at st k)
 
   module _ (l : Lawful st) (hk : k < length st.heads) (x : Altered) where
@@ -141,7 +141,7 @@ module _ (c : Change) (st : Store) (hs : List ℕ) (ts : List ℤ) (bs : Bytes) 
     looks : (q : Path) → ((r : Row) → At [] (rows_of st) q r → node_at u r.slot ≡ node_at st r.slot) → look (state u).tree q ≡ look (state st).tree q
     looks q h = ap (λ (rs : List Row). look (tree_from (node_at u) [] rs) q) x.rows ∙ look-alike (node_at u) (node_at st) [] (rows_of st) q h
 
-    file-here : (i : ℕ) (f : File) → file_of (state u).files i ≡ some f → (f ≡ fileAt u i) × (i < length st.heads) × (kind_at st i ≡ 2)
+    file-here : (i : ℕ) (f : File) → file_of (state u).files i ≡ some f → (f ≡ file_at u i) × (i < length st.heads) × (kind_at st i ≡ 2)
     file-here i f e =
         let h = file-found u (length hs) 0 i f e in
         (h.file, omega (arith, x.heads), sym (kinds i) ∙ h.kind)
@@ -149,22 +149,22 @@ module _ (c : Change) (st : Store) (hs : List ℕ) (ts : List ℤ) (bs : Bytes) 
     set-files : (i : ℕ) (f : File) → file_of (state u).files i ≡ some f → file_of (set_file k c (state st).files) i ≡ some f
     set-files i f e = two (ℕ_discrete i k)
       where
-        h : (f ≡ fileAt u i) × (i < length st.heads) × (kind_at st i ≡ 2)
+        h : (f ≡ file_at u i) × (i < length st.heads) × (kind_at st i ≡ 2)
         h = file-here i f e
 
         two : Dec (i ≡ k) → file_of (set_file k c (state st).files) i ≡ some f
         two (yes d) =
             ap (file_of (set_file k c (state st).files)) d
-            ∙ set_here k c (state st).files (fileAt st k) (has-file st l k hk (ap (kind_at st) (sym d) ∙ h.2))
-            ∙ ap some (sym x.self ∙ ap (fileAt u) (sym d) ∙ sym h.0)
+            ∙ set_here k c (state st).files (file_at st k) (has_file st l k hk (ap (kind_at st) (sym d) ∙ h.2))
+            ∙ ap some (sym x.self ∙ ap (file_at u) (sym d) ∙ sym h.0)
         two (no d) =
-            set_past k i c (state st).files (λ z. d (sym z)) ∙ has-file st l i h.1 h.2 ∙ ap some (sym (x.others i d) ∙ sym h.0)
+            set_past k i c (state st).files (λ z. d (sym z)) ∙ has_file st l i h.1 h.2 ∙ ap some (sym (x.others i d) ∙ sym h.0)
 
     file-same : kind_at st k ≡ 2 → (i : ℕ) → node_at u i ≡ node_at st i
     file-same e i = go (ℕ_discrete i k)
       where
         go : Dec (i ≡ k) → node_at u i ≡ node_at st i
-        go (yes d) = ap (node_at u) d ∙ file_at u k (x.kind ∙ e) ∙ sym (file_at st k e) ∙ ap (node_at st) (sym d)
+        go (yes d) = ap (node_at u) d ∙ file_at_lem u k (x.kind ∙ e) ∙ sym (file_at_lem st k e) ∙ ap (node_at st) (sym d)
         go (no d) = node-other i d
 
     by-file : kind_at st k ≡ 2 → Spells u (state_of (state st) (with_files (world_of (state st)) (set_file k c (state st).files)))
@@ -205,7 +205,7 @@ module _ (c : Change) (st : Store) (hs : List ℕ) (ts : List ℤ) (bs : Bytes) 
                 same_alike (state u) (state st) (with_tree (world_of (state st)) (put p n (state st).tree)) (lawful-shape u h)
                 (λ q. put-looks (omega arith) q ∙ ap (λ (m : Node). look (put p m (state st).tree) q) g)
                 (λ i. ap (λ (os : List Open). open_of os i) (opens_kept st u refl refl))
-                (λ i f _ w. let y = file-here i f w in has-file st l i y.1 y.2 ∙ ap some (sym (x.others i (λ d. e (ap (kind_at st) (sym d) ∙ y.2))) ∙ sym y.0))
+                (λ i f _ w. let y = file-here i f w in has_file st l i y.1 y.2 ∙ ap some (sym (x.others i (λ d. e (ap (kind_at st) (sym d) ∙ y.2))) ∙ sym y.0))
                 refl refl (apart-put p n (state st).tree (lawful-shape st l).paths) refl refl;
           }
 
@@ -222,7 +222,7 @@ module _ (c : Change) (st : Store) (hs : List ℕ) (ts : List ℤ) (bs : Bytes) 
       by-slot (directory e h y w) =
           edit-at (dir (meta_at st k)) (dir_at st k e)
           (by-put (λ z. omega arith) (λ z. omega arith) y (dir (change_meta c (meta_at st k))) (dir_at u k (x.kind ∙ e) ∙ ap (λ (f : File). dir f.meta) x.self))
-      by-slot (named e y) = edit-at (file k) (file_at st k e) (by-file e)
+      by-slot (named e y) = edit-at (file k) (file_at_lem st k e) (by-file e)
       by-slot (removed e y w) = absurd (omega (arith, subst (λ (i : ℕ). 1 ≤ uses i (rows_of st)) s (at_uses [] (rows_of st) p r a)))
       by-slot (target e t y w) =
           edit-at (link (meta_at st k) (bytes_at st k)) (link_at st k e)

@@ -16,7 +16,7 @@ use Rattle.layout.specs.Fields.{len_of, kind_of, mode_of, head_word}
 use Rattle.layout.specs.Slots.{contents}
 use Rattle.layout.specs.Store.{Store, meta_at, bytes_at}
 use Rattle.layout.specs.Lawful.{Lawful}
-use Rattle.slots.proofs.Contents.{total-same, contents_same}
+use Rattle.slots.proofs.Contents.{total_same, contents_same}
 use Rattle.edit_slot.specs.Changes.{Changes}
 use Rattle.slots.specs.Times.{times_set}
 use Rattle.edit_slot.specs.Times.{modified_set, set_if, some_set}
@@ -49,7 +49,7 @@ module _ (st : Store) (l : Lawful st) (k : ℕ) (hk : k < length st.heads) where
         times = refl;
         bytes = refl;
         rows = refl;
-        space = omega (arith, l.space, total-same w st.heads k (word-length h m));
+        space = omega (arith, l.space, total_same w st.heads k (word-length h m));
         word = other;
         others = λ i n. λ z. record { meta = meta_by (other i n z) st.times i; bytes = get_or (texts z) i [] };
         kind = ap kind_of here ∙ word-kind h m;
@@ -137,37 +137,37 @@ module _ (st : Store) (l : Lawful st) (k : ℕ) (hk : k < length st.heads) where
       long3 : length t3 ≡ length ts
       long3 = length-set t2 (4 * k + 2) a ∙ long2
 
-  pub modified-past : (t : ℤ) (i : ℕ) → (i ≡ k → ⊥) → meta_by (get_or st.heads i 0) (modified_set st.times k t) i ≡ meta_at st i
-  modified-past t i n = meta_past (get_or st.heads i 0) st.times k (4 * k + 3) i t (omega arith) (omega arith) n
+  pub modified_past : (t : ℤ) (i : ℕ) → (i ≡ k → ⊥) → meta_by (get_or st.heads i 0) (modified_set st.times k t) i ≡ meta_at st i
+  modified_past t i n = meta_past (get_or st.heads i 0) st.times k (4 * k + 3) i t (omega arith) (omega arith) n
 
   -- a time that is stored or not
-  if-length : (b : Bool) (ts : List ℤ) (i : ℕ) (v : ℤ) → length (set_if b ts i v) ≡ length ts
-  if-length true ts i v = length-set ts i v
-  if-length false ts i v = refl
+  if_length : (b : Bool) (ts : List ℤ) (i : ℕ) (v : ℤ) → length (set_if b ts i v) ≡ length ts
+  if_length true ts i v = length-set ts i v
+  if_length false ts i v = refl
 
   if_past : (b : Bool) (h : ℕ) (ts : List ℤ) (i j : ℕ) (v : ℤ) → 4 * k ≤ i → i < 4 * k + 4 → (j ≡ k → ⊥) → meta_by h (set_if b ts i v) j ≡ meta_by h ts j
   if_past true h ts i j v a b n = meta_past h ts k i j v a b n
   if_past false h ts i j v a b n = refl
 
-  if-accessed : (b : Bool) (h : ℕ) (ts : List ℤ) (v : ℤ) → 4 * k + 3 < length ts
+  if_accessed : (b : Bool) (h : ℕ) (ts : List ℤ) (v : ℤ) → 4 * k + 3 < length ts
       → meta_by h (set_if b ts (4 * k) v) k ≡ with_accessed (given (given_if b v) (meta_by h ts k).accessed) (meta_by h ts k)
-  if-accessed true h ts v b = meta-accessed h ts k v b
-  if-accessed false h ts v b = refl
+  if_accessed true h ts v b = meta-accessed h ts k v b
+  if_accessed false h ts v b = refl
 
-  if-modified : (b : Bool) (h : ℕ) (ts : List ℤ) (v : ℤ) → 4 * k + 3 < length ts
+  if_modified : (b : Bool) (h : ℕ) (ts : List ℤ) (v : ℤ) → 4 * k + 3 < length ts
       → meta_by h (set_if b ts (4 * k + 3) v) k ≡ with_modified (given (given_if b v) (meta_by h ts k).modified) (meta_by h ts k)
-  if-modified true h ts v b = meta-modified h ts k v b
-  if-modified false h ts v b = refl
+  if_modified true h ts v b = meta-modified h ts k v b
+  if_modified false h ts v b = refl
 
-  pub some-changes : (b : Bool) (a : ℤ) (d : Bool) (t : ℤ)
+  pub some_changes : (b : Bool) (a : ℤ) (d : Bool) (t : ℤ)
       → Changes (touch_some (given_if b a) (given_if d t)) st (slotted st st.heads (some_set st.times k b a d t) st.bytes) k
   unfolding change_meta change_bytes
-  some-changes b a d t =
+  some_changes b a d t =
       timed (touch_some (given_if b a) (given_if d t)) (some_set st.times k b a d t)
-      (if-length d t1 (4 * k + 3) t ∙ if-length b st.times (4 * k) a)
+      (if_length d t1 (4 * k + 3) t ∙ if_length b st.times (4 * k) a)
       (λ i n. if_past d (get_or st.heads i 0) t1 (4 * k + 3) i t (omega arith) (omega arith) n ∙ if_past b (get_or st.heads i 0) st.times (4 * k) i a (omega arith) (omega arith) n)
-      (if-modified d h t1 t (omega (arith, low, if-length b st.times (4 * k) a))
-      ∙ ap (λ (m : Meta). with_modified (given (given_if d t) m.modified) m) (if-accessed b h st.times a low))
+      (if_modified d h t1 t (omega (arith, low, if_length b st.times (4 * k) a))
+      ∙ ap (λ (m : Meta). with_modified (given (given_if d t) m.modified) m) (if_accessed b h st.times a low))
       refl
     where
       h : ℕ

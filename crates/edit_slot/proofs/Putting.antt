@@ -17,7 +17,7 @@ use Rattle.layout.specs.Lawful.{Lawful}
 use Rattle.records.proofs.Entries.{rows-front}
 use Rattle.slots.specs.Put.{with_len, Put}
 use Rattle.slots.proofs.Totals.{sums}
-use Rattle.slots.proofs.Laws.{kind-with, mode-with, put-slots, put-head, put-here, put-head-other, put_other}
+use Rattle.slots.proofs.Laws.{kind_with, mode_with, put-slots, put-head, put-here, put-head_other, put_other}
 use Rattle.edit_slot.specs.Changes.{Changes, Room}
 use Rattle.edit_slot.specs.Times.{modified_set}
 use Rattle.edit_slot.proofs.Altering.{slotted, altered-changes}
@@ -57,9 +57,9 @@ module _ (st : Store) (l : Lawful st) (k : ℕ) (hk : k < length st.heads) (two 
           bytes = p.long;
           rows = rows-front (live st) bs st.bytes (p.rest (name_total (live st)) (omega (arith, l.space, l.exact.bytes)) (omega (arith, rest, l.exact.bytes)));
           space = rest;
-          word = put-head-other st.heads st.bytes hs bs k n x p;
-          others = λ i d. λ z. record { meta = (ap (λ (w : ℕ). meta_by w ts i) (put-head-other st.heads st.bytes hs bs k n x p i d) ∙ past (get_or st.heads i 0) i d) z; bytes = put_other st.heads st.bytes hs bs k n x p i d z };
-          kind = ap kind_of here ∙ kind-with h n asked.short;
+          word = put-head_other st.heads st.bytes hs bs k n x p;
+          others = λ i d. λ z. record { meta = (ap (λ (w : ℕ). meta_by w ts i) (put-head_other st.heads st.bytes hs bs k n x p i d) ∙ past (get_or st.heads i 0) i d) z; bytes = put_other st.heads st.bytes hs bs k n x p i d z };
+          kind = ap kind_of here ∙ kind_with h n asked.short;
           self = λ z. record { meta = (mode ∙ self) z; bytes = (put-here st.heads st.bytes hs bs k n x p hk ∙ text) z };
           plain = λ d. absurd (d two);
         })
@@ -68,7 +68,7 @@ module _ (st : Store) (l : Lawful st) (k : ℕ) (hk : k < length st.heads) (two 
         here = put-head st.heads st.bytes hs bs k n x p hk
 
         mode : meta_by (get_or hs k 0) ts k ≡ meta_by h ts k
-        mode = λ z. record { mode = (ap mode_of here ∙ mode-with h n asked.short) z; accessed = (meta_by h ts k).accessed; changed = (meta_by h ts k).changed; created = (meta_by h ts k).created; modified = (meta_by h ts k).modified }
+        mode = λ z. record { mode = (ap mode_of here ∙ mode_with h n asked.short) z; accessed = (meta_by h ts k).accessed; changed = (meta_by h ts k).changed; created = (meta_by h ts k).created; modified = (meta_by h ts k).modified }
 
     pub contents-changes : (t : ℤ) → Changes (write x t) st (slotted st hs (modified_set st.times k t) bs) k
     unfolding change_meta change_bytes

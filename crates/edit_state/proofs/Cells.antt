@@ -50,8 +50,8 @@ cell-fits s t =
     omega (arith, b, ap length e)
 
 module _ (ps s : Bytes) (c : ℕ) (long : length ps ≡ 33792) (room : c < 33) (short : length s ≤ 1024) where
-  pub cell-own : take (length s) (drop (1024 * c) (paste ps (1024 * c) s (length s))) ≡ s
-  cell-own = own ps s (1024 * c) (omega arith)
+  pub cell_own : take (length s) (drop (1024 * c) (paste ps (1024 * c) s (length s))) ≡ s
+  cell_own = own ps s (1024 * c) (omega arith)
 
   pub cell_other : (i m : ℕ) → m ≤ 1024 → (i ≡ c → ⊥) → take m (drop (1024 * i) (paste ps (1024 * c) s (length s))) ≡ take m (drop (1024 * i) ps)
   cell_other i m h x = go (sides i c)

@@ -57,8 +57,8 @@ module _ (st : Store) (l : Lawful st) (n : ℕ) (low : n < 32) (on : holder st n
   stood_on = omega (arith, (stood st l n low on).one)
 
   module _ (hs : List ℕ) (bs : Bytes) where
-    other-number : (j : ℕ) → (j ≡ n → ⊥) → SameNumber st (new hs bs) j
-    other-number j x = record { word = rest (5 + 3 * j) (λ e. x (omega arith)); long = rest (7 + 3 * j) (λ e. omega arith); path = λ m. refl }
+    other_number : (j : ℕ) → (j ≡ n → ⊥) → SameNumber st (new hs bs) j
+    other_number j x = record { word = rest (5 + 3 * j) (λ e. x (omega arith)); long = rest (7 + 3 * j) (λ e. omega arith); path = λ m. refl }
 
     -- a number on another slot stands there still
     other-slot : (i : ℕ) → (i ≡ k → ⊥) → held_from (new hs bs) 32 0 i ≡ held_from st 32 0 i
@@ -68,28 +68,28 @@ module _ (st : Store) (l : Lawful st) (n : ℕ) (low : n < 32) (on : holder st n
         go j (yes e) =
             subst (λ (a : ℕ). eqb (holder (new hs bs) a) (suc i) ≡ eqb (holder st a) (suc i)) (sym e)
             (ap (λ (h : ℕ). eqb h (suc i)) closed ∙ ne_eqb 0 (suc i) (λ z. omega arith) ∙ sym (ne_eqb (holder st n) (suc i) (λ z. x (omega (arith, stood_on, z)))))
-        go j (no y) = ap (λ (h : ℕ). eqb h (suc i)) (other-number j y).word
+        go j (no y) = ap (λ (h : ℕ). eqb h (suc i)) (other_number j y).word
 
     close-by : Leaves st (new hs bs) → length hs ≡ length st.heads → Spells (new hs bs) (edited (close n) (state st))
     unfolding apply
     close-by v e =
         left-spells st (new hs bs) l v (λ j h. numbers j h (ℕ_discrete j n))
         (kept_same st (new hs bs) 0 (here_length st) (here_length (new hs bs)) same_length (λ m. refl) l.here)
-        (omega (arith, same-mask, l.umask)) (close_num n (opens_from st 32 0))
-        (λ m. ap (λ (os : List Open). open_of os m) (closes st (new hs bs) l n closed other-number (λ j x. rest (6 + 3 * j) (λ e. omega arith))))
-        (state st).here (ap (λ (m : ℕ). names (cell st 0 m)) same_length) (mask st) same-mask
+        (omega (arith, same_mask, l.umask)) (close_num n (opens_from st 32 0))
+        (λ m. ap (λ (os : List Open). open_of os m) (closes st (new hs bs) l n closed other_number (λ j x. rest (6 + 3 * j) (λ e. omega arith))))
+        (state st).here (ap (λ (m : ℕ). names (cell st 0 m)) same_length) (mask st) same_mask
       where
         same_length : here_length (new hs bs) ≡ here_length st
         same_length = rest 4 (λ e. omega arith)
 
-        same-mask : mask (new hs bs) ≡ mask st
-        same-mask = rest 3 (λ e. omega arith)
+        same_mask : mask (new hs bs) ≡ mask st
+        same_mask = rest 3 (λ e. omega arith)
 
         numbers : (j : ℕ) → j < 32 → Dec (j ≡ n) → T (number_ok (new hs bs) j)
         numbers j h (yes z) =
             subst (λ (i : ℕ). T (number_ok (new hs bs) i)) (sym z)
             (subst (λ (b : Bool). T (b || (leb (holder (new hs bs) n) (length hs) && kept_ok (new hs bs) (suc n) (kept_length (new hs bs) n)))) (sym (ap (λ (a : ℕ). eqb a 0) closed)) tt)
-        numbers j h (no x) = number_same st (new hs bs) j e (other-number j x) (l.numbers j h)
+        numbers j h (no x) = number_same st (new hs bs) j e (other_number j x) (l.numbers j h)
 
   -- ---- the slot stays
 
@@ -106,14 +106,14 @@ module _ (st : Store) (l : Lawful st) (n : ℕ) (low : n < 32) (on : holder st n
       go i (no x) = stays (slot_same st ws st.paths i) (other-slot st.heads st.bytes i x)
 
   -- the words alone say whether a number stands on the slot
-  by-words : (hs : List ℕ) (bs : Bytes) (b : Bool) → b ≡ held_from (lent ws [] [] [] [] []) 32 0 k → held_from (new hs bs) 32 0 k ≡ b
-  by-words hs bs b e = held_same (lent ws [] [] [] [] []) (new hs bs) k (λ j. refl) 32 0 ∙ sym e
+  by_words : (hs : List ℕ) (bs : Bytes) (b : Bool) → b ≡ held_from (lent ws [] [] [] [] []) 32 0 k → held_from (new hs bs) 32 0 k ≡ b
+  by_words hs bs b e = held_same (lent ws [] [] [] [] []) (new hs bs) k (λ j. refl) 32 0 ∙ sym e
 
   -- another number stands on it
   pub close-held : true ≡ held_from (lent ws [] [] [] [] []) 32 0 k → Spells kept (edited (close n) (state st))
   close-held e =
       stays_by (stays (slot_same st ws st.paths k)
-      (by-words st.heads st.bytes true e ∙ sym (is_true (held_from st 32 0 k) (held_by st 32 0 n k (omega arith) (omega arith) stood_on))))
+      (by_words st.heads st.bytes true e ∙ sym (is_true (held_from st 32 0 k) (held_by st 32 0 n k (omega arith) (omega arith) stood_on))))
 
   pub same_count : get_or ws 2 0 ≡ get_or st.words 2 0
   same_count = rest 2 (λ e. omega arith)
@@ -151,7 +151,7 @@ module _ (st : Store) (l : Lawful st) (n : ℕ) (low : n < 32) (on : holder st n
     slot-after i (yes e) =
         subst (After st (new hs bs)) (sym e)
         (freed (ap (λ (h : List ℕ). get_or h k 0) f.heads ∙ get_or-set_same st.heads k 0 0 in-range)
-        (used_none k (live st) st.bytes (ap (λ (c : ℕ). is_used k (take c st.records)) (sym same_count) ∙ sym b)) (by-words hs bs false a))
+        (used_none k (live st) st.bytes (ap (λ (c : ℕ). is_used k (take c st.records)) (sym same_count) ∙ sym b)) (by_words hs bs false a))
     slot-after i (no x) =
         let h : get_or hs i 0 ≡ get_or st.heads i 0 = ap (λ (h : List ℕ). get_or h i 0) f.heads ∙ get_or-set_other st.heads k i 0 0 x in
         stays
@@ -178,11 +178,11 @@ module _ (st : Store) (l : Lawful st) (n : ℕ) (low : n < 32) (on : holder st n
                 paths = l.exact.paths;
                 bytes = f.long ∙ l.exact.bytes ∙ sym r;
               };
-          mostSame = m;
-          roomSame = r;
-          countSame = same_count;
-          extentSame = x;
-          rowsSame = same_rows;
+          most_same = m;
+          room_same = r;
+          count_same = same_count;
+          extent_same = x;
+          rows_same = same_rows;
           space = subst (λ (c : ℕ). name_total (take c st.records) + total hs ≤ room st) (sym same_count) (omega (arith, l.space, f.room));
           slots = λ i. slot-after i (ℕ_discrete i k);
         })

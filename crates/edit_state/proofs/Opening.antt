@@ -28,7 +28,7 @@ use Rattle.layout.proofs.Tables.{open_at, file-found, open_there}
 use Rattle.layout.proofs.Edited.Frames.{After, stays, keeps, Leaves, left-lawful, left-spells}
 use Rattle.layout.proofs.Edited.Shapes.{lawful-shape}
 use Rattle.layout.proofs.Edited.Numbers.{SameNumber, Turn, kept_same, number_same, held_same, opens_by, turn-same, turn-closed}
-use Rattle.edit_state.proofs.Cells.{cell-fits, cell-own, cell_other}
+use Rattle.edit_state.proofs.Cells.{cell-fits, cell_own, cell_other}
 use Rattle.edit_state.proofs.Setting.{edit, words-leave, slot_same}
 
 -- ---- a list with a number closed
@@ -76,34 +76,34 @@ module _ (st : Store) (l : Lawful st) (n k id : ℕ) (s : Bytes) (low : n < 32) 
       get_or-set_other (set (set st.words (5 + 3 * n) (suc id)) (6 + 3 * n) k) (7 + 3 * n) i (length s) 0 c
       ∙ get_or-set_other (set st.words (5 + 3 * n) (suc id)) (6 + 3 * n) i k 0 b ∙ get_or-set_other st.words (5 + 3 * n) i (suc id) 0 a
 
-  has-file-word : holder new n ≡ suc id
-  has-file-word =
+  has_file-word : holder new n ≡ suc id
+  has_file-word =
       get_or-set_other (set (set st.words (5 + 3 * n) (suc id)) (6 + 3 * n) k) (7 + 3 * n) (5 + 3 * n) (length s) 0 (λ e. omega arith)
       ∙ get_or-set_other (set st.words (5 + 3 * n) (suc id)) (6 + 3 * n) (5 + 3 * n) k 0 (λ e. omega arith)
       ∙ get_or-set_same st.words (5 + 3 * n) (suc id) 0 (omega (arith, l.exact.words))
 
-  has-position : position new n ≡ k
-  has-position =
+  has_position : position new n ≡ k
+  has_position =
       get_or-set_other (set (set st.words (5 + 3 * n) (suc id)) (6 + 3 * n) k) (7 + 3 * n) (6 + 3 * n) (length s) 0 (λ e. omega arith)
       ∙ get_or-set_same (set st.words (5 + 3 * n) (suc id)) (6 + 3 * n) k 0 (omega (arith, l.exact.words, length-set st.words (5 + 3 * n) (suc id)))
 
-  has-length : kept_length new n ≡ length s
-  has-length =
+  has_length : kept_length new n ≡ length s
+  has_length =
       get_or-set_same (set (set st.words (5 + 3 * n) (suc id)) (6 + 3 * n) k) (7 + 3 * n) (length s) 0
       (omega (arith, l.exact.words, longs, length-set (set (set st.words (5 + 3 * n) (suc id)) (6 + 3 * n) k) (7 + 3 * n) (length s)))
 
-  has-path : cell new (suc n) (kept_length new n) ≡ s
-  has-path = ap (λ (m : ℕ). cell new (suc n) m) has-length ∙ cell-own st.paths s (suc n) l.exact.paths (omega arith) (cell-fits s ok)
+  has_path : cell new (suc n) (kept_length new n) ≡ s
+  has_path = ap (λ (m : ℕ). cell new (suc n) m) has_length ∙ cell_own st.paths s (suc n) l.exact.paths (omega arith) (cell-fits s ok)
 
-  other-cell : (i m : ℕ) → m ≤ 1024 → (i ≡ suc n → ⊥) → cell new i m ≡ cell st i m
-  other-cell i m h x = cell_other st.paths s (suc n) l.exact.paths (omega arith) (cell-fits s ok) i m h x
+  other_cell : (i m : ℕ) → m ≤ 1024 → (i ≡ suc n → ⊥) → cell new i m ≡ cell st i m
+  other_cell i m h x = cell_other st.paths s (suc n) l.exact.paths (omega arith) (cell-fits s ok) i m h x
 
-  other-number : (j : ℕ) → (j ≡ n → ⊥) → SameNumber st new j
-  other-number j x =
+  other_number : (j : ℕ) → (j ≡ n → ⊥) → SameNumber st new j
+  other_number j x =
       record {
         word = rest (5 + 3 * j) (λ e. x (omega arith)) (λ e. omega arith) (λ e. omega arith);
         long = rest (7 + 3 * j) (λ e. omega arith) (λ e. omega arith) (λ e. x (omega arith));
-        path = λ m. other-cell (suc j) (kept_length st j) m (λ e. x (omega arith));
+        path = λ m. other_cell (suc j) (kept_length st j) m (λ e. x (omega arith));
       }
 
   -- ---- the slots
@@ -126,9 +126,9 @@ module _ (st : Store) (l : Lawful st) (n k id : ℕ) (s : Bytes) (low : n < 32) 
       held : (id ≡ i → ⊥) → (j : ℕ) → Dec (j ≡ n) → eqb (holder new j) (suc i) ≡ eqb (holder st j) (suc i)
       held x j (yes e) =
           subst (λ (a : ℕ). eqb (holder new a) (suc i) ≡ eqb (holder st a) (suc i)) (sym e)
-          (ap (λ (h : ℕ). eqb h (suc i)) has-file-word ∙ ne_eqb (suc id) (suc i) (λ z. x (omega arith))
+          (ap (λ (h : ℕ). eqb h (suc i)) has_file-word ∙ ne_eqb (suc id) (suc i) (λ z. x (omega arith))
           ∙ sym (ap (λ (h : ℕ). eqb h (suc i)) free ∙ ne_eqb 0 (suc i) (λ z. omega arith)))
-      held x j (no y) = ap (λ (h : ℕ). eqb h (suc i)) (other-number j y).word
+      held x j (no y) = ap (λ (h : ℕ). eqb h (suc i)) (other_number j y).word
 
       go : Dec (id ≡ i) → After st new i
       go (yes e) = subst (After st new) e (keeps (slot_same st ws ps id) is_file.1 named)
@@ -149,32 +149,32 @@ module _ (st : Store) (l : Lawful st) (n k id : ℕ) (s : Bytes) (low : n < 32) 
       this =
           or_right (eqb (holder new n) 0) (leb (holder new n) (length st.heads) && kept_ok new (suc n) (kept_length new n))
           (and_both (leb (holder new n) (length st.heads)) (kept_ok new (suc n) (kept_length new n))
-          (le→leb (holder new n) (length st.heads) (omega (arith, has-file-word, is_file.0)))
+          (le→leb (holder new n) (length st.heads) (omega (arith, has_file-word, is_file.0)))
           (and_both (leb (kept_length new n) 1024) (cell_ok (cell new (suc n) (kept_length new n)))
-          (le→leb (kept_length new n) 1024 (omega (arith, has-length, cell-fits s ok))) (subst (λ (x : Bytes). T (cell_ok x)) (sym has-path) ok)))
+          (le→leb (kept_length new n) 1024 (omega (arith, has_length, cell-fits s ok))) (subst (λ (x : Bytes). T (cell_ok x)) (sym has_path) ok)))
 
       go : Dec (j ≡ n) → T (number_ok new j)
       go (yes e) = subst (λ (i : ℕ). T (number_ok new i)) (sym e) this
-      go (no x) = number_same st new j refl (other-number j x) (l.numbers j h)
+      go (no x) = number_same st new j refl (other_number j x) (l.numbers j h)
 
   -- ---- the current directory and the umask
 
   same_length : here_length new ≡ here_length st
   same_length = rest 4 (λ e. omega arith) (λ e. omega arith) (λ e. omega arith)
 
-  same-mask : mask new ≡ mask st
-  same-mask = rest 3 (λ e. omega arith) (λ e. omega arith) (λ e. omega arith)
+  same_mask : mask new ≡ mask st
+  same_mask = rest 3 (λ e. omega arith) (λ e. omega arith) (λ e. omega arith)
 
   here-ok : T (kept_ok new 0 (here_length new))
-  here-ok = kept_same st new 0 (here_length st) (here_length new) same_length (λ h. other-cell 0 (here_length st) h (λ e. omega arith)) l.here
+  here-ok = kept_same st new 0 (here_length st) (here_length new) same_length (λ h. other_cell 0 (here_length st) h (λ e. omega arith)) l.here
 
   same_here : (state new).here ≡ (state st).here
   same_here =
       let h = leb→le (here_length st) 1024 (and_left (leb (here_length st) 1024) (cell_ok (cell st 0 (here_length st))) l.here) in
-      ap (λ (m : ℕ). names (cell new 0 m)) same_length ∙ ap names (other-cell 0 (here_length st) h (λ e. omega arith))
+      ap (λ (m : ℕ). names (cell new 0 m)) same_length ∙ ap names (other_cell 0 (here_length st) h (λ e. omega arith))
 
   mask-ok : mask new < 2 ^ 32
-  mask-ok = omega (arith, same-mask, l.umask)
+  mask-ok = omega (arith, same_mask, l.umask)
 
   -- ---- the open numbers
 
@@ -186,8 +186,8 @@ module _ (st : Store) (l : Lawful st) (n k id : ℕ) (s : Bytes) (low : n < 32) 
   back =
       closes new st (left-lawful st new l leaves numbers here-ok mask-ok) n free
       (λ j x.
-      let o = other-number j x in
-      record { word = sym o.word; long = sym o.long; path = λ m. sym (other-cell (suc j) (kept_length new j) m (λ e. x (omega arith))) })
+      let o = other_number j x in
+      record { word = sym o.word; long = sym o.long; path = λ m. sym (other_cell (suc j) (kept_length new j) m (λ e. x (omega arith))) })
       (λ j x. sym (rest (6 + 3 * j) (λ e. omega arith) (λ e. x (omega arith)) (λ e. omega arith)))
 
   closed : opens_from st 32 0 ≡ close_num n (opens_from st 32 0)
@@ -195,9 +195,9 @@ module _ (st : Store) (l : Lawful st) (n k id : ℕ) (s : Bytes) (low : n < 32) 
 
   this-open : open_of (opens_from new 32 0) n ≡ some fresh
   this-open =
-      let a : holder new n - 1 ≡ id = omega (arith, has-file-word) in
-      open_there new 32 0 n (omega arith) (omega arith) (λ e. omega (arith, has-file-word, e))
-      ∙ (λ i. some (record { num = n; id = a i; pos = has-position i; kept = names (has-path i) }))
+      let a : holder new n - 1 ≡ id = omega (arith, has_file-word) in
+      open_there new 32 0 n (omega arith) (omega arith) (λ e. omega (arith, has_file-word, e))
+      ∙ (λ i. some (record { num = n; id = a i; pos = has_position i; kept = names (has_path i) }))
 
   found : (m : ℕ) → Dec (m ≡ n) → open_of (opens_from new 32 0) m ≡ open_of (fresh ∷ close_num n (opens_from st 32 0)) m
   unfolding open_of
@@ -212,7 +212,7 @@ module _ (st : Store) (l : Lawful st) (n k id : ℕ) (s : Bytes) (low : n < 32) 
   unfolding apply
   opens-done =
       subst (λ (o : Option Node). Spells new (state_of (state st) (opened (world_of (state st)) n (names s) k o))) (sym there)
-      (left-spells st new l leaves numbers here-ok mask-ok (fresh ∷ close_num n (opens_from st 32 0)) (λ m. found m (ℕ_discrete m n)) (state st).here same_here (mask st) same-mask)
+      (left-spells st new l leaves numbers here-ok mask-ok (fresh ∷ close_num n (opens_from st 32 0)) (λ m. found m (ℕ_discrete m n)) (state st).here same_here (mask st) same_mask)
 
   -- by the words and the paths as they are left
   pub opens-spells : (h at : ℕ) → h ≡ suc id → at ≡ 1024 * suc n → (qs : Bytes) → qs ≡ paste st.paths at s (length s)

@@ -25,7 +25,7 @@ use Rattle.layout.specs.Alike.{Spells}
 use Rattle.layout.proofs.Tables.{open_at}
 use Rattle.layout.proofs.Edited.Frames.{SameSlot, After, stays, Leaves, left-spells}
 use Rattle.layout.proofs.Edited.Numbers.{SameNumber, Turn, kept_same, number_same, held_same, opens_by, turn-same}
-use Rattle.edit_state.proofs.Cells.{cell-fits, cell-own, cell_other}
+use Rattle.edit_state.proofs.Cells.{cell-fits, cell_own, cell_other}
 
 -- the store with other words and other kept paths
 abbrev pub edit : Store → List ℕ → Bytes → Store
@@ -48,11 +48,11 @@ words-leave st ws ps l a b w x s =
             paths = b ∙ l.exact.paths;
             bytes = l.exact.bytes ∙ sym r;
           };
-      mostSame = m;
-      roomSame = r;
-      countSame = c;
-      extentSame = x;
-      rowsSame = ap (λ (k : ℕ). rows (take k st.records) st.bytes) c;
+      most_same = m;
+      room_same = r;
+      count_same = c;
+      extent_same = x;
+      rows_same = ap (λ (k : ℕ). rows (take k st.records) st.bytes) c;
       space = subst (λ (k : ℕ). name_total (take k st.records) + total st.heads ≤ room st) (sym c) l.space;
       slots = s;
     }
@@ -153,10 +153,10 @@ module _ (st : Store) (l : Lawful st) where
     stores-length = get_or-set_same st.words 4 (length s) 0 (omega (arith, l.exact.words))
 
     stores-path : cell gone 0 (here_length gone) ≡ s
-    stores-path = ap (λ (k : ℕ). cell gone 0 k) stores-length ∙ cell-own st.paths s 0 l.exact.paths (omega arith) (cell-fits s ok)
+    stores-path = ap (λ (k : ℕ). cell gone 0 k) stores-length ∙ cell_own st.paths s 0 l.exact.paths (omega arith) (cell-fits s ok)
 
-    other-number : (j : ℕ) → SameNumber st gone j
-    other-number j =
+    other_number : (j : ℕ) → SameNumber st gone j
+    other_number j =
         record {
           word = other st.words 4 (length s) (5 + 3 * j) (λ e. omega arith);
           long = other st.words 4 (length s) (7 + 3 * j) (λ e. omega arith);
@@ -173,11 +173,11 @@ module _ (st : Store) (l : Lawful st) where
         let w : (i : ℕ) → i < 3 → get_or ws i 0 ≡ get_or st.words i 0 = λ i h. other st.words 4 (length s) i (λ e. omega arith) in
         let x : get_or ws 101 0 ≡ get_or st.words 101 0 = other st.words 4 (length s) 101 (λ e. omega arith) in
         let m : mask gone ≡ mask st = other st.words 4 (length s) 3 (λ e. omega arith) in
-        sets st ws ps l a b w x other-number
+        sets st ws ps l a b w x other_number
         (and_both (leb (here_length gone) 1024) (cell_ok (cell gone 0 (here_length gone)))
         (le→leb (here_length gone) 1024 (omega (arith, stores-length, cell-fits s ok))) (subst (λ (x : Bytes). T (cell_ok x)) (sym stores-path) ok))
         (omega (arith, m, l.umask)) (opens_from st 32 0)
-        (same_opens st ws ps l a b w x other-number (λ j. other st.words 4 (length s) (6 + 3 * j) (λ e. omega arith)))
+        (same_opens st ws ps l a b w x other_number (λ j. other st.words 4 (length s) (6 + 3 * j) (λ e. omega arith)))
         (names s) (ap names stores-path) (mask st) m
 
     -- by the paths as they are left

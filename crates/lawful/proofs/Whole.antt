@@ -50,8 +50,8 @@ module _ (st : Store) where
   abbrev pub PartsIn : Type 0
   PartsIn = Parts st.words (live st) st.heads st.paths st.bytes
 
-  same-slot : (k : ℕ) → slot_ok st k ≡ slot_by (kind_at st k) (get_or st.heads k 0) (uses_in k (live st)) (stands_from st.words 32 0 k) (bytes_at st k)
-  same-slot k =
+  same_slot : (k : ℕ) → slot_ok st k ≡ slot_by (kind_at st k) (get_or st.heads k 0) (uses_in k (live st)) (stands_from st.words 32 0 k) (bytes_at st k)
+  same_slot k =
       ap (λ (u : ℕ). slot_by (kind_at st k) (get_or st.heads k 0) u (held_from st 32 0 k) (bytes_at st k)) (uses-rows k (live st) st.bytes)
       ∙ ap (λ (b : Bool). slot_by (kind_at st k) (get_or st.heads k 0) (uses_in k (live st)) b (bytes_at st k)) (held-words st 32 0 k)
 
@@ -64,7 +64,7 @@ module _ (st : Store) where
     slotted = m.slotted;
     space = omega (arith, p.space, e.bytes);
     entries = p.entries;
-    slots = λ k h. subst T (sym (same-slot k)) (p.slots k h);
+    slots = λ k h. subst T (sym (same_slot k)) (p.slots k h);
     numbers = p.kept.numbers;
     here = p.kept.here;
     umask = m.umask;
@@ -78,7 +78,7 @@ module _ (st : Store) where
     space = omega (arith, l.space, l.exact.bytes);
     entries = l.entries;
     kept = record { numbers = l.numbers; here = l.here };
-    slots = λ k h. subst T (same-slot k) (l.slots k h);
+    slots = λ k h. subst T (same_slot k) (l.slots k h);
   }
 
 -- ---- the whole

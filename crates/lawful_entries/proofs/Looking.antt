@@ -122,9 +122,9 @@ module _ (ws : List ℕ) (bs : Bytes) (i off : ℕ) (h : i < length ws) where
   rows_at = rw (drop-cons ws i 0 h, drop-drop (nlen_of (get_or ws i 0)) off bs)
 
   -- the bytes of the names from there on
-  pub total-at : name_total (drop i ws) ≡ nlen_of (get_or ws i 0) + name_total (drop (suc i) ws)
+  pub total_at : name_total (drop i ws) ≡ nlen_of (get_or ws i 0) + name_total (drop (suc i) ws)
   unfolding name_total
-  total-at = rw (drop-cons ws i 0 h)
+  total_at = rw (drop-cons ws i 0 h)
 
 pub rows_end : (ws : List ℕ) (bs : Bytes) (i : ℕ) → length ws ≤ i → rows (drop i ws) bs ≡ []
 unfolding rows
@@ -144,8 +144,8 @@ module _ (ws : List ℕ) (bs : Bytes) (i off : ℕ) (h : i < length ws) (t : Boo
   pub text-bad : t ≡ false → text_rows (rows (drop i ws) (drop off bs)) ≡ false
   text-bad z = text-step ∙ ap (λ (b : Bool). b && text_rows (rows (drop (suc i) ws) (drop e bs))) z
 
-  pub text-on : t ≡ true → text_rows (rows (drop i ws) (drop off bs)) ≡ text_rows (rows (drop (i + 1) ws) (drop e bs))
-  text-on z = rw add-one (text-step ∙ ap (λ (b : Bool). b && text_rows (rows (drop (suc i) ws) (drop e bs))) z)
+  pub text_on : t ≡ true → text_rows (rows (drop i ws) (drop off bs)) ≡ text_rows (rows (drop (i + 1) ws) (drop e bs))
+  text_on z = rw add-one (text-step ∙ ap (λ (b : Bool). b && text_rows (rows (drop (suc i) ws) (drop e bs))) z)
 
 pub text-end : (ws : List ℕ) (bs : Bytes) (i : ℕ) → length ws ≤ i → text_rows (rows (drop i ws) bs) ≡ true
 unfolding text_rows

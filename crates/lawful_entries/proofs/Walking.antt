@@ -19,7 +19,7 @@ use Rattle.layout.specs.Fields.{depth_of, nlen_of, slot_of}
 use Rattle.layout.specs.Rows.{Row, rows, name_total, path_by, path_of}
 use Rattle.layout.specs.Lawful.{follows}
 use Rattle.lawful_entries.specs.Fits.{kind_in, form_ok, entry_fits, walk_fits, rows_fit, row_at, name_at, spell, Spelt}
-use Rattle.lawful_entries.proofs.Looking.{and_true_left, and_true_right, rows_at, rows_end, total-at}
+use Rattle.lawful_entries.proofs.Looking.{and_true_left, and_true_right, rows_at, rows_end, total_at}
 
 -- ---- the path that numbers say
 
@@ -166,9 +166,9 @@ module _ (kind : ℕ → ℕ) (n : ℕ) (p : Path) (d : Bool) (ws : List ℕ) (b
   pub walk-bad : entry_fits n p d (row_at bs (get_or ws i 0) off) ≡ false → walk_fits kind n p d (rows (drop i ws) (drop off bs)) ≡ false
   walk-bad e = walk_at ∙ ap (λ (t : Bool). t && walk_fits kind n (path_of p (row_at bs (get_or ws i 0) off)) (eqb (kind (slot_of (get_or ws i 0))) 1) (rows (drop (suc i) ws) (drop (off + nlen_of (get_or ws i 0)) bs))) e
 
-  pub walk-on : (q : Path) → entry_fits n p d (row_at bs (get_or ws i 0) off) ≡ true → path_of p (row_at bs (get_or ws i 0) off) ≡ q
+  pub walk_on : (q : Path) → entry_fits n p d (row_at bs (get_or ws i 0) off) ≡ true → path_of p (row_at bs (get_or ws i 0) off) ≡ q
       → walk_fits kind n p d (rows (drop i ws) (drop off bs)) ≡ walk_fits kind n q (eqb (kind (slot_of (get_or ws i 0))) 1) (rows (drop (i + 1) ws) (drop (off + nlen_of (get_or ws i 0)) bs))
-  walk-on q e f =
+  walk_on q e f =
       rw add-one (walk_at ∙ ap (λ (t : Bool). t && walk_fits kind n (path_of p (row_at bs (get_or ws i 0) off)) (eqb (kind (slot_of (get_or ws i 0))) 1) (rows (drop (suc i) ws) (drop (off + nlen_of (get_or ws i 0)) bs))) e
       ∙ ap (λ (x : Path). walk_fits kind n x (eqb (kind (slot_of (get_or ws i 0))) 1) (rows (drop (suc i) ws) (drop (off + nlen_of (get_or ws i 0)) bs))) f)
 
@@ -202,9 +202,9 @@ abbrev pub root_fits : (ℕ → ℕ) → ℕ → ℕ → Bool
 root_fits kind n w = eqb (depth_of w) 0 && (eqb (nlen_of w) 0 && (ltb (slot_of w) n && eqb (kind (slot_of w)) 1))
 
 module _ (kind : ℕ → ℕ) (n : ℕ) (ws : List ℕ) (bs : Bytes) (h : 0 < length ws) (l : name_total ws ≤ length bs) where
-  root-at : rows_fit kind n (rows ws bs) ≡ root_fits kind n (get_or ws 0 0) && walk_fits kind n [] true (rows (drop 1 ws) (drop (nlen_of (get_or ws 0 0)) bs))
+  root_at : rows_fit kind n (rows ws bs) ≡ root_fits kind n (get_or ws 0 0) && walk_fits kind n [] true (rows (drop 1 ws) (drop (nlen_of (get_or ws 0 0)) bs))
   unfolding rows_fit rows name_total
-  root-at = go ws h l
+  root_at = go ws h l
     where
       go : (ws : List ℕ) → 0 < length ws → name_total ws ≤ length bs
           → rows_fit kind n (rows ws bs) ≡ root_fits kind n (get_or ws 0 0) && walk_fits kind n [] true (rows (drop 1 ws) (drop (nlen_of (get_or ws 0 0)) bs))
@@ -212,13 +212,13 @@ module _ (kind : ℕ → ℕ) (n : ℕ) (ws : List ℕ) (bs : Bytes) (h : 0 < le
       go (w ∷ ws) h l = ap (λ (t : Bool). (eqb (depth_of w) 0 && (t && (ltb (slot_of w) n && eqb (kind (slot_of w)) 1))) && walk_fits kind n [] true (rows ws (drop (nlen_of w) bs))) (nil-name (nlen_of w) bs (omega arith))
 
   pub root-bad : root_fits kind n (get_or ws 0 0) ≡ false → false ≡ rows_fit kind n (rows ws bs)
-  root-bad e = sym (root-at ∙ ap (λ (t : Bool). t && walk_fits kind n [] true (rows (drop 1 ws) (drop (nlen_of (get_or ws 0 0)) bs))) e)
+  root-bad e = sym (root_at ∙ ap (λ (t : Bool). t && walk_fits kind n [] true (rows (drop 1 ws) (drop (nlen_of (get_or ws 0 0)) bs))) e)
 
-  pub root-on : root_fits kind n (get_or ws 0 0) ≡ true → walk_fits kind n [] true (rows (drop 1 ws) bs) ≡ rows_fit kind n (rows ws bs)
-  root-on e =
+  pub root_on : root_fits kind n (get_or ws 0 0) ≡ true → walk_fits kind n [] true (rows (drop 1 ws) bs) ≡ rows_fit kind n (rows ws bs)
+  root_on e =
       let w = get_or ws 0 0 in
       let z : nlen_of w ≡ 0 = eqb-true (nlen_of w) 0 (and_true_left (eqb (nlen_of w) 0) (ltb (slot_of w) n && eqb (kind (slot_of w)) 1) (and_true_right (eqb (depth_of w) 0) (eqb (nlen_of w) 0 && (ltb (slot_of w) n && eqb (kind (slot_of w)) 1)) e)) in
-      sym (root-at ∙ ap (λ (t : Bool). t && walk_fits kind n [] true (rows (drop 1 ws) (drop (nlen_of w) bs))) e ∙ ap (λ (k : ℕ). walk_fits kind n [] true (rows (drop 1 ws) (drop k bs))) z)
+      sym (root_at ∙ ap (λ (t : Bool). t && walk_fits kind n [] true (rows (drop 1 ws) (drop (nlen_of w) bs))) e ∙ ap (λ (k : ℕ). walk_fits kind n [] true (rows (drop 1 ws) (drop k bs))) z)
 
 pub root_none : (kind : ℕ → ℕ) (n : ℕ) (ws : List ℕ) (bs : Bytes) → length ws ≡ 0 → true ≡ rows_fit kind n (rows ws bs)
 unfolding rows_fit rows
@@ -249,7 +249,7 @@ module _ (ws heads : List ℕ) (bs : Bytes) where
     module _ (h : i < length ws) where
       -- the next name is within the bytes
       pub walked-name : off + nlen_of (get_or ws i 0) ≤ length bs
-      walked-name = omega (arith, w.room, total-at ws bs i off h)
+      walked-name = omega (arith, w.room, total_at ws bs i off h)
 
       pub walked-bad : entry_fits (length heads) (spell bs (take d last)) dir (row_at bs (get_or ws i 0) off) ≡ false → false ≡ walk_fits (kind_in heads) (length heads) [] true (rows (drop 1 ws) bs)
       walked-bad e = sym (w.same ∙ walk-bad (kind_in heads) (length heads) (spell bs (take d last)) dir ws bs i off h e)
@@ -274,11 +274,11 @@ module _ (ws heads : List ℕ) (bs : Bytes) where
             record {
               up = omega arith;
               within = omega arith;
-              room = rw add-one (omega (arith, w.room, total-at ws bs i off h));
+              room = rw add-one (omega (arith, w.room, total_at ws bs i off h));
               few = omega (arith, w.few, f.1);
               marks = simp length-set w.marks;
               spelt = spelt_next (length bs) last d (depth_of v) off (nlen_of v) w.spelt f.0 f.1 t b walked-name;
-              same = w.same ∙ walk-on (kind_in heads) (length heads) (spell bs (take d last)) dir ws bs i off h (spell bs (take (depth_of v) (set last (depth_of v - 1) (off * 256 + nlen_of v)))) e q;
+              same = w.same ∙ walk_on (kind_in heads) (length heads) (spell bs (take d last)) dir ws bs i off h (spell bs (take (depth_of v) (set last (depth_of v - 1) (off * 256 + nlen_of v)))) e q;
             }
 
 -- the names behind the first

@@ -81,9 +81,9 @@ module _ (h u : ℕ) (held : Bool) where
       go (suc (suc (suc (suc k)))) t = absurd t
 
   -- a slot is right, where what has it says so
-  pub slot-right : u ≤ 1 → (0 < u → T (entry_word h)) → (T held → kind_of h ≡ 2) → (u ≡ 0 → held ≡ false → h ≡ 0) → T (slot_by (kind_of h) h u held [])
+  pub slot_right : u ≤ 1 → (0 < u → T (entry_word h)) → (T held → kind_of h ≡ 2) → (u ≡ 0 → held ≡ false → h ≡ 0) → T (slot_by (kind_of h) h u held [])
   unfolding entry_word target_ok text octets lengths_ok pieces all_short
-  slot-right l w f z = go (kind_of h) u held refl l w f z
+  slot_right l w f z = go (kind_of h) u held refl l w f z
     where
       go : (k u : ℕ) (held : Bool) → kind_of h ≡ k → u ≤ 1 → (0 < u → T (entry_by k h)) → (T held → k ≡ 2) → (u ≡ 0 → held ≡ false → h ≡ 0) → T (slot_by k h u held [])
       go zero zero false e l w f z = and_both (eqb h 0) true (subst T (sym (eq-eqb h 0 (z refl refl))) tt) tt

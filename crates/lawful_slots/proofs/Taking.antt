@@ -16,7 +16,7 @@ use Rattle.layout.specs.Lawful.{slot_by}
 use Rattle.lawful_limits.specs.Settles.{Settles}
 use Rattle.slots.specs.Uses.{uses_in, stands_from, Within}
 use Rattle.lawful_slots.specs.Uses.{SlotsRight, filled, entry_by, entry_word, Named, NamedBy, Opened, OpenedBy}
-use Rattle.lawful_slots.proofs.ByKind.{twice-wrong, word-wrong, number-wrong, slot-used, slot-right}
+use Rattle.lawful_slots.proofs.ByKind.{twice-wrong, word-wrong, number-wrong, slot-used, slot_right}
 use Rattle.slots.proofs.Counting.{uses_more, uses_most, Said, said_more, said-twice, stands_next}
 use Rattle.lawful_slots.proofs.Filled.{filled-set, filled-le, filled-free}
 
@@ -204,6 +204,6 @@ module _ (ws recs heads t₁ t₂ : List ℕ) (n : ℕ) (within : Within (length
   slots-counted true e =
       let q : filled heads ≡ length recs + n = eqb-true (filled heads) (length recs + n) (sym e) in
       let free = filled-free t₂ heads free-word (omega (arith, a.1, b.2)) in
-      λ k h. slot-right (get_or heads k 0) (uses_in k recs) (stands_from ws 32 0 k) (a.0 k).once (a.0 k).word (b.0 k h).file (λ u z. free k (untaken k h u z))
+      λ k h. slot_right (get_or heads k 0) (uses_in k recs) (stands_from ws 32 0 k) (a.0 k).once (a.0 k).word (b.0 k h).file (λ u z. free k (untaken k h u z))
   slots-counted false e = λ right.
       eqb-false (filled heads) (length recs + n) (sym e) (omega (arith, a.1, b.2, filled-le t₂ heads free-word, filled-le heads t₂ (word-free right)))

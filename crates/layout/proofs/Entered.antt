@@ -21,8 +21,8 @@ use Rattle.layout.specs.Store.{Store, holder, kept_length, rows_of, meta_at, byt
 use Rattle.layout.specs.Lawful.{uses, held_from, kept_ok, Lawful}
 use Rattle.layout.proofs.Walks.{At, look_at, at_uses, uses_at, at_once, at_slot}
 use Rattle.layout.proofs.Roots.{all_slots, all-look}
-use Rattle.layout.proofs.Tables.{fileAt, file-there, held_by, held-open}
-use Rattle.layout.proofs.Slotted.{SlotOf, free, directory, named, removed, target, slot-of, dir_at, file_at, link_at}
+use Rattle.layout.proofs.Tables.{file_at, file_there, held_by, held-open}
+use Rattle.layout.proofs.Slotted.{SlotOf, free, directory, named, removed, target, slot-of, dir_at, file_at_lem, link_at}
 
 positive : (k : ℕ) → (k ≡ 0 → ⊥) → 1 ≤ k
 positive zero h = absurd (h refl)
@@ -38,8 +38,8 @@ module _ (st : Store) (l : Lawful st) where
   pub slot : (k : ℕ) → k < all → SlotOf st k
   slot k h = slot-of st k (l.slots k h)
 
-  pub has-file : (k : ℕ) → k < all → kind_at st k ≡ 2 → file_of (state st).files k ≡ some (fileAt st k)
-  has-file k h e = file-there st all 0 k (omega arith) (omega arith) e
+  pub has_file : (k : ℕ) → k < all → kind_at st k ≡ 2 → file_of (state st).files k ≡ some (file_at st k)
+  has_file k h e = file_there st all 0 k (omega arith) (omega arith) e
 
   -- ---- the slots of the entries
 
@@ -66,7 +66,7 @@ module _ (st : Store) (l : Lawful st) where
   pub file-slot : (k i : ℕ) → 1 ≤ uses k (rows_of st) → SlotOf st k → node_at st k ≡ file i → (k ≡ i) × (uses k (rows_of st) ≡ 1)
   file-slot k i u (free e x y w) d = absurd (omega arith)
   file-slot k i u (directory e x y w) d = absurd (dir_no_file (meta_at st k) i (sym (dir_at st k e) ∙ d))
-  file-slot k i u (named e y) d = (file-inj (sym (file_at st k e) ∙ d), y)
+  file-slot k i u (named e y) d = (file-inj (sym (file_at_lem st k e) ∙ d), y)
   file-slot k i u (removed e y w) d = absurd (omega arith)
   file-slot k i u (target e t y w) d = absurd (link_no_file (meta_at st k) (bytes_at st k) i (sym (link_at st k e) ∙ d))
 
@@ -86,7 +86,7 @@ module _ (st : Store) (l : Lawful st) where
   file-used i k (named e y) =
       let h = uses_at [] (rows_of st) i (omega arith) in
       or_left (is_named tree i) (is_held (state st).opens i)
-      (at_named tree h.0 i (all-look (kind_at st) all (node_at st) (rows_of st) l.entries h.0 h.1 h.2 ∙ ap some (ap (node_at st) h.3 ∙ file_at st i e)))
+      (at_named tree h.0 i (all-look (kind_at st) all (node_at st) (rows_of st) l.entries h.0 h.1 h.2 ∙ ap some (ap (node_at st) h.3 ∙ file_at_lem st i e)))
   file-used i k (removed e y w) = or_right (is_named tree i) (is_held (state st).opens i) (held-open st 32 0 i w)
   file-used i k (target e t y w) = absurd (omega arith)
 

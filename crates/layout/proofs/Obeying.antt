@@ -22,10 +22,10 @@ use Rattle.layout.specs.Fields.{len_of, mode_of}
 use Rattle.layout.specs.Slots.{split, start}
 use Rattle.layout.specs.Store.{Store, holder, kept_length, here_length, cell, rows_of, meta_at, bytes_at, kind_at, node_at, state}
 use Rattle.layout.specs.Lawful.{uses, cell_ok, kept_ok, Lawful, Sized}
-use Rattle.layout.proofs.Entered.{slot, has-file, entry, one_name_lem, file-used, stood}
+use Rattle.layout.proofs.Entered.{slot, has_file, entry, one_name_lem, file-used, stood}
 use Rattle.layout.proofs.Roots.{all_named, all_once, all-rooted, all-home}
-use Rattle.layout.proofs.Tables.{fileAt, file-found, files-once, open_at, open-found, opens-once}
-use Rattle.layout.proofs.Slotted.{SlotOf, free, directory, named, removed, target, dir_at, file_at, link_at}
+use Rattle.layout.proofs.Tables.{file_at, file-found, files-once, open_at, open-found, opens-once}
+use Rattle.layout.proofs.Slotted.{SlotOf, free, directory, named, removed, target, dir_at, file_at_lem, link_at}
 use Rattle.layout.proofs.Used.{entries-used, bytes-used}
 
 -- ---- numbers of words and bytes
@@ -70,7 +70,7 @@ module _ (st : Store) (z : Sized st) (l : Lawful st) where
   node_ok : (k : ℕ) → k < all → 1 ≤ uses k (rows_of st) → SlotOf st k → NodeOk (state st).files (node_at st k)
   node_ok k h u (free e x y w) = absurd (omega arith)
   node_ok k h u (directory e x y w) = subst (NodeOk (state st).files) (sym (dir_at st k e)) (meta-ok k)
-  node_ok k h u (named e y) = subst (NodeOk (state st).files) (sym (file_at st k e)) (fileAt st k, has-file st l k h e)
+  node_ok k h u (named e y) = subst (NodeOk (state st).files) (sym (file_at_lem st k e)) (file_at st k, has_file st l k h e)
   node_ok k h u (removed e y w) = absurd (omega arith)
   node_ok k h u (target e t y w) = subst (NodeOk (state st).files) (sym (link_at st k e)) (meta-ok k, t)
 
@@ -87,7 +87,7 @@ module _ (st : Store) (z : Sized st) (l : Lawful st) where
         small = omega arith;
         place = z.words _;
         path = cell-path (suc i) (kept_length st i) a.kept;
-        stands = (fileAt st k, has-file st l k (omega (arith, a.one, a.low)) a.kind);
+        stands = (file_at st k, has_file st l k (omega (arith, a.one, a.low)) a.kind);
       }
 
   -- ---- all rules

@@ -36,9 +36,9 @@ module _ (kind : ℕ → ℕ) (n : ℕ) where
     pub is_dir : kind r.slot ≡ 1
     pub rest : T (walk_ok kind n [] true rs)
 
-  pub root-of : (r : Row) (rs : List Row) → T (rows_ok kind n (r ∷ rs)) → Root r rs
+  pub root_of : (r : Row) (rs : List Row) → T (rows_ok kind n (r ∷ rs)) → Root r rs
   unfolding rows_ok
-  root-of r rs t =
+  root_of r rs t =
       let a = and_left (root_ok kind n r) (walk_ok kind n [] true rs) t in
       let b = and_right (eqb r.depth 0) (is_nil r.name && (ltb r.slot n && eqb (kind r.slot) 1)) a in
       let c = and_right (is_nil r.name) (ltb r.slot n && eqb (kind r.slot) 1) b in
@@ -56,32 +56,32 @@ module _ (kind : ℕ → ℕ) (n : ℕ) where
 
   pub all_slots : (rs : List Row) → T (rows_ok kind n rs) → SlotsIn n rs
   all_slots [] t = tt
-  all_slots (r ∷ rs) t = let o = root-of r rs t in (o.slot, walk-slots kind n [] true rs o.rest)
+  all_slots (r ∷ rs) t = let o = root_of r rs t in (o.slot, walk-slots kind n [] true rs o.rest)
 
   pub all_named : (rs : List Row) → T (rows_ok kind n rs) → (q : Path) (r : Row) → At [] rs q r → T (names_ok q)
   unfolding names_ok
   all_named [] t q r a = absurd a
-  all_named (s ∷ rs) t q r (inl e) = subst (λ (p : Path). T (names_ok p)) (sym (root-of s rs t).path ∙ e.0) tt
+  all_named (s ∷ rs) t q r (inl e) = subst (λ (p : Path). T (names_ok p)) (sym (root_of s rs t).path ∙ e.0) tt
   all_named (s ∷ rs) t q r (inr a) =
-      let o = root-of s rs t in
+      let o = root_of s rs t in
       at_names kind n (path_of [] s) true rs (from_root s rs o) (subst (λ (p : Path). T (names_ok p)) (sym o.path) tt) q r a
 
   module _ (f : ℕ → Node) where
     pub all_once : (rs : List Row) → T (rows_ok kind n rs) → Once new_path (tree_from f [] rs)
     unfolding tree_from
     all_once [] t = tt
-    all_once (s ∷ rs) t = ascends-apart (tree_from f [] (s ∷ rs)) (walk-climbs kind n f (path_of [] s) true rs (from_root s rs (root-of s rs t)))
+    all_once (s ∷ rs) t = ascends-apart (tree_from f [] (s ∷ rs)) (walk-climbs kind n f (path_of [] s) true rs (from_root s rs (root_of s rs t)))
 
     pub all-look : (rs : List Row) → T (rows_ok kind n rs) → (q : Path) (r : Row) → At [] rs q r → look (tree_from f [] rs) q ≡ some (f r.slot)
     all-look [] t q r a = absurd a
-    all-look (s ∷ rs) t q r a = at-look kind n f [] true s rs (from_root s rs (root-of s rs t)) q r a
+    all-look (s ∷ rs) t q r a = at-look kind n f [] true s rs (from_root s rs (root_of s rs t)) q r a
 
     module _ (dirs : (k : ℕ) → kind k ≡ 1 → (m : Meta) × (f k ≡ dir m)) where
       pub all-rooted : (rs : List Row) → T (rows_ok kind n rs) → Rooted (tree_from f [] rs)
       unfolding tree_from
       all-rooted [] t m e = clash (look [] []) m (look_none []) e
       all-rooted (s ∷ rs) t m e =
-          let o = root-of s rs t in
+          let o = root_of s rs t in
           let d = dirs s.slot o.is_dir in
           (d.0, sym (some_inj (sym (look-here (path_of [] s, f s.slot) (tree_from f (path_of [] s) rs) [] o.path) ∙ e)) ∙ d.1)
 
@@ -89,9 +89,9 @@ module _ (kind : ℕ → ℕ) (n : ℕ) where
       pub all-home : (rs : List Row) → T (rows_ok kind n rs) → (q : Path) (x : Name) (r : Row) → At [] rs (q ++ (x ∷ [])) r → IsDir (tree_from f [] rs) q
       unfolding tree_from
       all-home [] t q x r a = absurd a
-      all-home (s ∷ rs) t q x r (inl e) = absurd (snoc-root q x (sym e.0 ∙ (root-of s rs t).path))
+      all-home (s ∷ rs) t q x r (inl e) = absurd (snoc-root q x (sym e.0 ∙ (root_of s rs t).path))
       all-home (s ∷ rs) t q x r (inr a) =
-          let o = root-of s rs t in
+          let o = root_of s rs t in
           let w = from_root s rs o in
           let d = dirs s.slot o.is_dir in
           let u = tree_from f (path_of [] s) rs in

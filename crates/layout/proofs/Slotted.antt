@@ -81,8 +81,8 @@ slot-back st k h = slot-tests (kind_at st k) (get_or st.heads k 0) (uses k (rows
 pub dir_at : (st : Store) (k : ℕ) → kind_at st k ≡ 1 → node_at st k ≡ dir (meta_at st k)
 dir_at st k e = ap (λ (n : ℕ). node_by n k (meta_at st k) (bytes_at st k)) e
 
-pub file_at : (st : Store) (k : ℕ) → kind_at st k ≡ 2 → node_at st k ≡ file k
-file_at st k e = ap (λ (n : ℕ). node_by n k (meta_at st k) (bytes_at st k)) e
+pub file_at_lem : (st : Store) (k : ℕ) → kind_at st k ≡ 2 → node_at st k ≡ file k
+file_at_lem st k e = ap (λ (n : ℕ). node_by n k (meta_at st k) (bytes_at st k)) e
 
 pub link_at : (st : Store) (k : ℕ) → kind_at st k ≡ 3 → node_at st k ≡ link (meta_at st k) (bytes_at st k)
 link_at st k e = ap (λ (n : ℕ). node_by n k (meta_at st k) (bytes_at st k)) e

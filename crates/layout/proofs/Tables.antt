@@ -18,7 +18,7 @@ use Rattle.model.specs.Rules.{Once, new_file, new_number}
 use Rattle.model.proofs.Demand.Contents.{or_elim, or_left, or_right}
 use Rattle.layout.specs.Store.{Store, holder, position, kept_length, cell, meta_at, bytes_at, kind_at, files_from, opens_from}
 use Rattle.layout.specs.Lawful.{held_from}
-use Rattle.layout.proofs.Numbered.{find, keepFrom, found, present, each-once}
+use Rattle.layout.proofs.Numbered.{find, keep_from, found, present, each-once}
 
 -- ---- the two tables are lists by number
 
@@ -47,28 +47,28 @@ module _ (st : Store) where
   -- ---- files
 
   -- the file of a slot
-  abbrev pub fileAt : ℕ → File
-  fileAt k = record { meta = meta_at st k; bytes = bytes_at st k }
+  abbrev pub file_at : ℕ → File
+  file_at k = record { meta = meta_at st k; bytes = bytes_at st k }
 
   -- a slot whose file stands in the table
   pub record IsFile (n k i : ℕ) (f : File) : Type 0 where
     pub low : k ≤ i
     pub high : i < k + n
     pub kind : kind_at st i ≡ 2
-    pub file : f ≡ fileAt i
+    pub file : f ≡ file_at i
 
   abbrev is_file : ℕ → Bool
   is_file k = eqb (kind_at st k) 2
 
   abbrev entry_at : ℕ → ℕ × File
-  entry_at k = (k, fileAt k)
+  entry_at k = (k, file_at k)
 
-  files-kept : (n k : ℕ) → files_from st n k ≡ keepFrom by_id (λ f. f.1) is_file entry_at (λ _. refl) n k
-  unfolding files_from keepFrom
+  files-kept : (n k : ℕ) → files_from st n k ≡ keep_from by_id (λ f. f.1) is_file entry_at (λ _. refl) n k
+  unfolding files_from keep_from
   files-kept zero k = refl
   files-kept (suc n) k = ap (keep_if (is_file k) (entry_at k)) (files-kept n (suc k))
 
-  file-find : (n k i : ℕ) → file_of (files_from st n k) i ≡ find by_id (λ f. f.1) (keepFrom by_id (λ f. f.1) is_file entry_at (λ _. refl) n k) i
+  file-find : (n k i : ℕ) → file_of (files_from st n k) i ≡ find by_id (λ f. f.1) (keep_from by_id (λ f. f.1) is_file entry_at (λ _. refl) n k) i
   file-find n k i = find-file (files_from st n k) i ∙ ap (λ (fs : Files). find by_id (λ f. f.1) fs i) (files-kept n k)
 
   pub file-found : (n k i : ℕ) (f : File) → file_of (files_from st n k) i ≡ some f → IsFile n k i f
@@ -76,8 +76,8 @@ module _ (st : Store) where
       let h = found by_id (λ f. f.1) is_file entry_at (λ _. refl) n k i f (sym (file-find n k i) ∙ e) in
       record { low = h.low; high = h.high; kind = eqb-true (kind_at st i) 2 h.passes; file = h.value }
 
-  pub file-there : (n k i : ℕ) → k ≤ i → i < k + n → kind_at st i ≡ 2 → file_of (files_from st n k) i ≡ some (fileAt i)
-  file-there n k i a b e = file-find n k i ∙ present by_id (λ f. f.1) is_file entry_at (λ _. refl) n k i a b (eq-eqb (kind_at st i) 2 e)
+  pub file_there : (n k i : ℕ) → k ≤ i → i < k + n → kind_at st i ≡ 2 → file_of (files_from st n k) i ≡ some (file_at i)
+  file_there n k i a b e = file-find n k i ∙ present by_id (λ f. f.1) is_file entry_at (λ _. refl) n k i a b (eq-eqb (kind_at st i) 2 e)
 
   pub files-once : (n k : ℕ) → Once new_file (files_from st n k)
   files-once n k =
@@ -100,12 +100,12 @@ module _ (st : Store) where
   abbrev is_open : ℕ → Bool
   is_open k = not (eqb (holder st k) 0)
 
-  opens_kept : (n k : ℕ) → opens_from st n k ≡ keepFrom by_num (λ o. o) is_open open_at (λ _. refl) n k
-  unfolding opens_from keepFrom
+  opens_kept : (n k : ℕ) → opens_from st n k ≡ keep_from by_num (λ o. o) is_open open_at (λ _. refl) n k
+  unfolding opens_from keep_from
   opens_kept zero k = refl
   opens_kept (suc n) k = ap (keep_if (is_open k) (open_at k)) (opens_kept n (suc k))
 
-  open-find : (n k i : ℕ) → open_of (opens_from st n k) i ≡ find by_num (λ o. o) (keepFrom by_num (λ o. o) is_open open_at (λ _. refl) n k) i
+  open-find : (n k i : ℕ) → open_of (opens_from st n k) i ≡ find by_num (λ o. o) (keep_from by_num (λ o. o) is_open open_at (λ _. refl) n k) i
   open-find n k i = find-open (opens_from st n k) i ∙ ap (λ (os : List Open). find by_num (λ o. o) os i) (opens_kept n k)
 
   pub open-found : (n k i : ℕ) (o : Open) → open_of (opens_from st n k) i ≡ some o → IsOpen n k i o

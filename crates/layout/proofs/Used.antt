@@ -20,10 +20,10 @@ use Rattle.layout.specs.Store.{Store, count, live, rows_of, bytes_at, kind_at, n
 use Rattle.layout.specs.Lawful.{walk_ok, rows_ok, uses, slot_ok, Lawful}
 use Rattle.layout.proofs.Named.{length-rows, name_sum, name-sum}
 use Rattle.layout.proofs.Rising.{Follows, aside, below}
-use Rattle.layout.proofs.Walks.{stands-ok, first-ok, rest_ok}
-use Rattle.layout.proofs.Roots.{root-of, all_slots}
-use Rattle.layout.proofs.Tables.{fileAt}
-use Rattle.layout.proofs.Slotted.{SlotOf, free, directory, named, removed, target, slot-of, dir_at, file_at, link_at, bytes-length}
+use Rattle.layout.proofs.Walks.{stands-ok, first_ok, rest_ok}
+use Rattle.layout.proofs.Roots.{root_of, all_slots}
+use Rattle.layout.proofs.Tables.{file_at}
+use Rattle.layout.proofs.Slotted.{SlotOf, free, directory, named, removed, target, slot-of, dir_at, file_at_lem, link_at, bytes-length}
 use Rattle.layout.proofs.Sums.{sum_from, sum_same, sum_both, sum_rows_lem, sum_rows}
 
 -- ---- entries
@@ -55,7 +55,7 @@ module _ (kind : ℕ → ℕ) (n : ℕ) (f : ℕ → Node) where
   walk-names p d (r ∷ rs) t =
       omega (
         arith,
-        name_next p d r.name r.depth (stands-ok kind n p d r (first-ok kind n p d r rs t)),
+        name_next p d r.name r.depth (stands-ok kind n p d r (first_ok kind n p d r rs t)),
         walk-names (path_of p r) (eqb (kind r.slot) 1) rs (rest_ok kind n p d r rs t),
       )
 
@@ -63,7 +63,7 @@ module _ (kind : ℕ → ℕ) (n : ℕ) (f : ℕ → Node) where
   unfolding rows_ok names_and_targets tree_from name_sum sum_rows name_length
   all-names [] t = refl
   all-names (r ∷ rs) t =
-      let o = root-of kind n r rs t in
+      let o = root_of kind n r rs t in
       rw o.path (omega (arith, walk-names [] true rs o.rest, o.nameless))
 
 -- a file's part of the contents
@@ -76,7 +76,7 @@ contents-sum st zero k = refl
 contents-sum st (suc n) k = go (eqb (kind_at st k) 2) (contents-sum st n (suc k))
   where
     go : (b : Bool) → contents_length (files_from st n (suc k)) ≡ sum_from (file_bytes st) n (suc k)
-        → contents_length (keep_if b (k, fileAt st k) (files_from st n (suc k))) ≡ cond b (length (bytes_at st k)) 0 + sum_from (file_bytes st) n (suc k)
+        → contents_length (keep_if b (k, file_at st k) (files_from st n (suc k))) ≡ cond b (length (bytes_at st k)) 0 + sum_from (file_bytes st) n (suc k)
     go true ih = ap (λ (m : ℕ). length (bytes_at st k) + m) ih
     go false ih = omega (arith, ih)
 
@@ -98,8 +98,8 @@ unfolding target_length
 slot-bytes st k (free e h u x) l =
     rw (u, e) (omega (arith, ap len_of h))
 slot-bytes st k (directory e h u x) l = rw (dir_at st k e, u, e) (omega arith)
-slot-bytes st k (named e u) l = rw (file_at st k e, u, e) (omega arith)
-slot-bytes st k (removed e u x) l = rw (file_at st k e, u, e) (omega arith)
+slot-bytes st k (named e u) l = rw (file_at_lem st k e, u, e) (omega arith)
+slot-bytes st k (removed e u x) l = rw (file_at_lem st k e, u, e) (omega arith)
 slot-bytes st k (target e t u x) l = rw (link_at st k e, u, e) (omega arith)
 
 -- of any store whose entries and slots are as the rules say, and whose bytes are there

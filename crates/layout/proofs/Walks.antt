@@ -88,9 +88,9 @@ at_slot n p (s ∷ rs) h q r (inr a) = at_slot n (path_of p s) rs h.1 q r a
 
 module _ (kind : ℕ → ℕ) (n : ℕ) where
   -- the first row, and the walk behind it
-  pub first-ok : (p : Path) (d : Bool) (r : Row) (rs : List Row) → T (walk_ok kind n p d (r ∷ rs)) → T (entry_ok n p d r)
+  pub first_ok : (p : Path) (d : Bool) (r : Row) (rs : List Row) → T (walk_ok kind n p d (r ∷ rs)) → T (entry_ok n p d r)
   unfolding walk_ok
-  first-ok p d r rs t = and_left (entry_ok n p d r) (walk_ok kind n (path_of p r) (eqb (kind r.slot) 1) rs) t
+  first_ok p d r rs t = and_left (entry_ok n p d r) (walk_ok kind n (path_of p r) (eqb (kind r.slot) 1) rs) t
 
   pub rest_ok : (p : Path) (d : Bool) (r : Row) (rs : List Row) → T (walk_ok kind n p d (r ∷ rs)) → T (walk_ok kind n (path_of p r) (eqb (kind r.slot) 1) rs)
   unfolding walk_ok
@@ -110,38 +110,38 @@ module _ (kind : ℕ → ℕ) (n : ℕ) where
   rises-ok : (p : Path) (d : Bool) (r : Row) → T (entry_ok n p d r) → Rises p (path_of p r)
   rises-ok p d r t = rise_next p d r.name r.depth (stands-ok p d r t)
 
-  pub at-rises : (p : Path) (d : Bool) (rs : List Row) → T (walk_ok kind n p d rs) → (q : Path) (r : Row) → At p rs q r → Rises p q
-  at-rises p d [] t q r a = absurd a
-  at-rises p d (s ∷ rs) t q r (inl e) = subst (λ (o : Path). Rises p o) e.0 (rises-ok p d s (first-ok p d s rs t))
-  at-rises p d (s ∷ rs) t q r (inr a) =
-      rise_both p (path_of p s) q (rises-ok p d s (first-ok p d s rs t))
-      (at-rises (path_of p s) (eqb (kind s.slot) 1) rs (rest_ok p d s rs t) q r a)
+  pub at_rises : (p : Path) (d : Bool) (rs : List Row) → T (walk_ok kind n p d rs) → (q : Path) (r : Row) → At p rs q r → Rises p q
+  at_rises p d [] t q r a = absurd a
+  at_rises p d (s ∷ rs) t q r (inl e) = subst (λ (o : Path). Rises p o) e.0 (rises-ok p d s (first_ok p d s rs t))
+  at_rises p d (s ∷ rs) t q r (inr a) =
+      rise_both p (path_of p s) q (rises-ok p d s (first_ok p d s rs t))
+      (at_rises (path_of p s) (eqb (kind s.slot) 1) rs (rest_ok p d s rs t) q r a)
 
   pub walk-slots : (p : Path) (d : Bool) (rs : List Row) → T (walk_ok kind n p d rs) → SlotsIn n rs
   walk-slots p d [] t = tt
-  walk-slots p d (r ∷ rs) t = (slot_ok_lem p d r (first-ok p d r rs t), walk-slots (path_of p r) (eqb (kind r.slot) 1) rs (rest_ok p d r rs t))
+  walk-slots p d (r ∷ rs) t = (slot_ok_lem p d r (first_ok p d r rs t), walk-slots (path_of p r) (eqb (kind r.slot) 1) rs (rest_ok p d r rs t))
 
-  names-next : (p : Path) (d : Bool) (k : ℕ) (x : Name) → Follows p d x k → T (names_ok p) → T (name_ok x) → T (names_ok (path_by k p x))
+  names_next : (p : Path) (d : Bool) (k : ℕ) (x : Name) → Follows p d x k → T (names_ok p) → T (name_ok x) → T (names_ok (path_by k p x))
   unfolding names_ok
-  names-next p d k x (aside j h u) a b =
+  names_next p d k x (aside j h u) a b =
       names_both (take j p) (x ∷ []) (names_left (take j p) (drop j p) (subst (λ (q : Path). T (names_ok q)) (sym (take-append-drop j p)) a)) (and_both (name_ok x) true b tt)
-  names-next p d k x (below e) a b =
+  names_next p d k x (below e) a b =
       names_both (take (length p) p) (x ∷ []) (subst (λ (q : Path). T (names_ok q)) (sym (take-length p)) a) (and_both (name_ok x) true b tt)
 
   pub at_names : (p : Path) (d : Bool) (rs : List Row) → T (walk_ok kind n p d rs) → T (names_ok p) → (q : Path) (r : Row) → At p rs q r → T (names_ok q)
   at_names p d [] t h q r a = absurd a
   at_names p d (s ∷ rs) t h q r (inl e) =
-      subst (λ (o : Path). T (names_ok o)) e.0 (names-next p d s.depth s.name (stands-ok p d s (first-ok p d s rs t)) h (name-ok p d s (first-ok p d s rs t)))
+      subst (λ (o : Path). T (names_ok o)) e.0 (names_next p d s.depth s.name (stands-ok p d s (first_ok p d s rs t)) h (name-ok p d s (first_ok p d s rs t)))
   at_names p d (s ∷ rs) t h q r (inr a) =
       at_names (path_of p s) (eqb (kind s.slot) 1) rs (rest_ok p d s rs t)
-      (names-next p d s.depth s.name (stands-ok p d s (first-ok p d s rs t)) h (name-ok p d s (first-ok p d s rs t))) q r a
+      (names_next p d s.depth s.name (stands-ok p d s (first_ok p d s rs t)) h (name-ok p d s (first_ok p d s rs t))) q r a
 
   module _ (f : ℕ → Node) where
     -- the paths rise
     pub walk-climbs : (p : Path) (d : Bool) (rs : List Row) → T (walk_ok kind n p d rs) → Climbs p (tree_from f p rs)
     unfolding tree_from
     walk-climbs p d [] t = tt
-    walk-climbs p d (s ∷ rs) t = (rises-ok p d s (first-ok p d s rs t), walk-climbs (path_of p s) (eqb (kind s.slot) 1) rs (rest_ok p d s rs t))
+    walk-climbs p d (s ∷ rs) t = (rises-ok p d s (first_ok p d s rs t), walk-climbs (path_of p s) (eqb (kind s.slot) 1) rs (rest_ok p d s rs t))
 
     -- a look finds each row
     pub at-look : (p : Path) (d : Bool) (s : Row) (rs : List Row) → T (walk_ok kind n (path_of p s) d rs) → (q : Path) (r : Row) → At p (s ∷ rs) q r
@@ -151,5 +151,5 @@ module _ (kind : ℕ → ℕ) (n : ℕ) where
     at-look p d s [] t q r (inr a) = absurd a
     at-look p d s (o ∷ rs) t q r (inl e) = look-here (path_of p s, f s.slot) (tree_from f (path_of p s) (o ∷ rs)) q e.0 ∙ ap (λ (x : Row). some (f x.slot)) e.1
     at-look p d s (o ∷ rs) t q r (inr a) =
-        look_past (path_of p s, f s.slot) (tree_from f (path_of p s) (o ∷ rs)) q (rise-apart (path_of p s) q (at-rises (path_of p s) d (o ∷ rs) t q r a))
+        look_past (path_of p s, f s.slot) (tree_from f (path_of p s) (o ∷ rs)) q (rise-apart (path_of p s) q (at_rises (path_of p s) d (o ∷ rs) t q r a))
         ∙ at-look (path_of p s) (eqb (kind o.slot) 1) o rs (rest_ok (path_of p s) d o rs t) q r a

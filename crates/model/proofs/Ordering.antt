@@ -135,20 +135,20 @@ module _ {A : Type 0} where
   Names [] = Unit {0}
   Names (e ∷ l) = (named l e.0 ≡ none) × Names l
 
-  abbrev dropBy : {B : Type 0} → Dec B → Name × A → List (Name × A) → List (Name × A)
-  dropBy (yes k) e l = l
-  dropBy (no k) e l = e ∷ l
+  abbrev drop_by : {B : Type 0} → Dec B → Name × A → List (Name × A) → List (Name × A)
+  drop_by (yes k) e l = l
+  drop_by (no k) e l = e ∷ l
 
   without : Name → List (Name × A) → List (Name × A)
   without x [] = []
-  without x (e ∷ l) = dropBy (name-dec e.0 x) e (without x l)
+  without x (e ∷ l) = drop_by (name-dec e.0 x) e (without x l)
 
-  without-here : (x : Name) (l : List (Name × A)) → named (without x l) x ≡ none
+  without_here : (x : Name) (l : List (Name × A)) → named (without x l) x ≡ none
   unfolding named without
-  without-here x [] = refl
-  without-here x (e ∷ l) = go (name-dec e.0 x) (without-here x l)
+  without_here x [] = refl
+  without_here x (e ∷ l) = go (name-dec e.0 x) (without_here x l)
     where
-      go : (d : Dec (e.0 ≡ x)) → named (without x l) x ≡ none → named (dropBy d e (without x l)) x ≡ none
+      go : (d : Dec (e.0 ≡ x)) → named (without x l) x ≡ none → named (drop_by d e (without x l)) x ≡ none
       go (yes k) ih = ih
       go (no k) ih = named_past e (without x l) x k ∙ ih
 
@@ -157,7 +157,7 @@ module _ {A : Type 0} where
   without_past x y [] n = refl
   without_past x y (e ∷ l) n = go (name-dec e.0 x) (without_past x y l n)
     where
-      go : (d : Dec (e.0 ≡ x)) → named (without x l) y ≡ named l y → named (dropBy d e (without x l)) y ≡ named (e ∷ l) y
+      go : (d : Dec (e.0 ≡ x)) → named (without x l) y ≡ named l y → named (drop_by d e (without x l)) y ≡ named (e ∷ l) y
       go (yes k) ih = ih ∙ sym (named_past e l y (λ z. n (sym k ∙ z)))
       go (no k) ih = two (name-dec e.0 y)
         where
@@ -165,12 +165,12 @@ module _ {A : Type 0} where
           two (yes z) = named_here e (without x l) y z ∙ sym (named_here e l y z)
           two (no z) = named_past e (without x l) y z ∙ ih ∙ sym (named_past e l y z)
 
-  without-names : (x : Name) (l : List (Name × A)) → Names l → Names (without x l)
+  without_names : (x : Name) (l : List (Name × A)) → Names l → Names (without x l)
   unfolding without
-  without-names x [] h = tt
-  without-names x (e ∷ l) h = go (name-dec e.0 x) (without-names x l h.1)
+  without_names x [] h = tt
+  without_names x (e ∷ l) h = go (name-dec e.0 x) (without_names x l h.1)
     where
-      go : (d : Dec (e.0 ≡ x)) → Names (without x l) → Names (dropBy d e (without x l))
+      go : (d : Dec (e.0 ≡ x)) → Names (without x l) → Names (drop_by d e (without x l))
       go (yes k) ih = ih
       go (no k) ih = (without_past x e.0 l (λ z. k (sym z)) ∙ h.0, ih)
 
@@ -179,7 +179,7 @@ module _ {A : Type 0} where
   without_none x [] h = refl
   without_none x (e ∷ l) h = go (name-dec e.0 x) (without_none x l) h
     where
-      go : (d : Dec (e.0 ≡ x)) → (named l x ≡ none → without x l ≡ l) → by_name d e.1 (named l x) ≡ none → dropBy d e (without x l) ≡ e ∷ l
+      go : (d : Dec (e.0 ≡ x)) → (named l x ≡ none → without x l ≡ l) → by_name d e.1 (named l x) ≡ none → drop_by d e (without x l) ≡ e ∷ l
       go (yes k) ih z = clash (some e.1) e.1 z refl
       go (no k) ih z = ap (◌∷◌ e) (ih z)
 
@@ -190,22 +190,22 @@ module _ {A : Type 0} where
   first x a (f ∷ l) h e = go (name-dec f.0 x) (first x a l h.1) e
     where
       go : (d : Dec (f.0 ≡ x)) → (named l x ≡ some a → in_order l ≡ insert (x, a) (in_order (without x l))) → by_name d f.1 (named l x) ≡ some a
-          → insert f (in_order l) ≡ insert (x, a) (in_order (dropBy d f (without x l)))
+          → insert f (in_order l) ≡ insert (x, a) (in_order (drop_by d f (without x l)))
       go (yes k) ih z = rw (without_none x l (ap (named l) (sym k) ∙ h.0)) (ap (λ (y : Name × A). insert y (in_order l)) (λ i. (k i, some_inj z i)))
       go (no k) ih z = rw (ih z) (swap f (x, a) (in_order (without x l)) k)
 
   -- lists that have the same under each name have one order
-  pub one-order : (l m : List (Name × A)) → Names l → Names m → ((x : Name) → named l x ≡ named m x) → in_order l ≡ in_order m
+  pub one_order : (l m : List (Name × A)) → Names l → Names m → ((x : Name) → named l x ≡ named m x) → in_order l ≡ in_order m
   unfolding in_order named
-  one-order [] [] a b h = refl
-  one-order [] (e ∷ m) a b h = clash (named (e ∷ m) e.0) e.1 (sym (h e.0)) (named_here e m e.0 refl)
-  one-order (e ∷ l) m a b h =
-      ap (insert e) (one-order l (without e.0 m) a.1 (without-names e.0 m b) rest)
+  one_order [] [] a b h = refl
+  one_order [] (e ∷ m) a b h = clash (named (e ∷ m) e.0) e.1 (sym (h e.0)) (named_here e m e.0 refl)
+  one_order (e ∷ l) m a b h =
+      ap (insert e) (one_order l (without e.0 m) a.1 (without_names e.0 m b) rest)
       ∙ sym (first e.0 e.1 m b (sym (h e.0) ∙ named_here e l e.0 refl))
     where
       rest : (x : Name) → named l x ≡ named (without e.0 m) x
       rest x = go (name-dec e.0 x)
         where
           go : Dec (e.0 ≡ x) → named l x ≡ named (without e.0 m) x
-          go (yes k) = ap (named l) (sym k) ∙ a.0 ∙ sym (without-here e.0 m) ∙ ap (named (without e.0 m)) k
+          go (yes k) = ap (named l) (sym k) ∙ a.0 ∙ sym (without_here e.0 m) ∙ ap (named (without e.0 m)) k
           go (no k) = sym (named_past e l x k) ∙ h x ∙ sym (without_past e.0 x m k)

@@ -14,7 +14,7 @@ use Rattle.text.specs.Utf8.{Bytes}
 use Rattle.model.proofs.Ordering.{Sides, less, equal, more, sides}
 use Rattle.name_order.specs.Order.{order_of, number}
 use Rattle.name_order.specs.declared.Order.TheVariants.{Less}
-use Rattle.name_order.proofs.Orders.{order-short, order-less, order-next}
+use Rattle.name_order.proofs.Orders.{order-short, order-less, order_next}
 
 -- the first byte in which s from i on differs from t from j on is less in s
 record Lower (s t : Bytes) (i j : ℕ) : Type 0 where
@@ -47,7 +47,7 @@ module _ (a b : Bytes) where
   -- names are compared from their first byte on in which they differ
   past : (k : ℕ) → k ≤ length a → k ≤ length b → ((m : ℕ) → m < k → get_or a m 0 ≡ get_or b m 0) → order_of a b ≡ order_of (drop k a) (drop k b)
   past zero l m h = refl
-  past (suc k) l m h = past k (omega (arith, l)) (omega (arith, m)) (λ n w. h n (omega (arith, w))) ∙ order-next a b k (omega (arith, l)) (omega (arith, m)) (h k (omega arith))
+  past (suc k) l m h = past k (omega (arith, l)) (omega (arith, m)) (λ n w. h n (omega (arith, w))) ∙ order_next a b k (omega (arith, l)) (omega (arith, m)) (h k (omega arith))
 
 -- ---- one byte after the other
 

@@ -14,7 +14,7 @@ use Rattle.text.specs.Utf8.{Bytes}
 use Rattle.model.proofs.Ordering.{Sides, less, equal, more, sides}
 use Rattle.name_order.specs.Order.{order_of, number, length_order, Shorter}
 use Rattle.name_order.specs.declared.Order.TheVariants.{Less, Same, More}
-use Rattle.name_order.proofs.Orders.{order-end, order-short, order-long, order-less, order-more, order-next}
+use Rattle.name_order.proofs.Orders.{order-end, order-short, order-long, order-less, order_more, order_next}
 
 -- ---- longer runs from shorter ones
 
@@ -64,7 +64,7 @@ module _ (a b : Bytes) (i : ℕ) (f : (m : ℕ) → get_or a m 0 < 256) (g : (m 
     where
       next : number k i a ≡ number k i b → Level a b (i + k) → Sides (get_or a (i + k) 0) (get_or b (i + k) 0) → Lead a b i (suc k)
       next e v (less z) = below (omega (arith, e, z)) (v (i + k) (omega arith) ∙ order-less a b (i + k) (omega (arith, l)) (omega (arith, m)) z)
-      next e v (more z) = above (omega (arith, e, z)) (v (i + k) (omega arith) ∙ order-more a b (i + k) (omega (arith, l)) (omega (arith, m)) z)
+      next e v (more z) = above (omega (arith, e, z)) (v (i + k) (omega arith) ∙ order_more a b (i + k) (omega (arith, l)) (omega (arith, m)) z)
       next e v (equal z) = level (omega (arith, e, z)) on
         where
           on : Level a b (i + suc k)
@@ -73,7 +73,7 @@ module _ (a b : Bytes) (i : ℕ) (f : (m : ℕ) → get_or a m 0 < 256) (g : (m 
               two_ways : (t : Bool) → ltb (i + k) n ≡ t → order_of a b ≡ order_of (drop n a) (drop n b)
               two_ways true q =
                   let r : n ≡ suc (i + k) = omega (arith, w, ltb-true (i + k) n q) in
-                  rw r (v (i + k) (omega arith) ∙ order-next a b (i + k) (omega (arith, l)) (omega (arith, m)) z)
+                  rw r (v (i + k) (omega arith) ∙ order_next a b (i + k) (omega (arith, l)) (omega (arith, m)) z)
               two_ways false q = v n (ltb-false (i + k) n q)
 
       go : Lead a b i k → Lead a b i (suc k)

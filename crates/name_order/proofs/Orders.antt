@@ -119,9 +119,9 @@ module _ (a b : Bytes) (i : ℕ) where
   pub order-less : i < length a → i < length b → get_or a i 0 < get_or b i 0 → order_of (drop i a) (drop i b) ≡ Less
   order-less h k l = rw (drop-cons a i 0 h, drop-cons b i 0 k) (order_of_before _ _ (cons-less _ _ _ _ l))
 
-  pub order-more : i < length a → i < length b → get_or b i 0 < get_or a i 0 → order_of (drop i a) (drop i b) ≡ More
-  order-more h k l = rw (drop-cons a i 0 h, drop-cons b i 0 k) (order_of_behind _ _ (cons-less _ _ _ _ l))
+  pub order_more : i < length a → i < length b → get_or b i 0 < get_or a i 0 → order_of (drop i a) (drop i b) ≡ More
+  order_more h k l = rw (drop-cons a i 0 h, drop-cons b i 0 k) (order_of_behind _ _ (cons-less _ _ _ _ l))
 
-  pub order-next : i < length a → i < length b → get_or a i 0 ≡ get_or b i 0
+  pub order_next : i < length a → i < length b → get_or a i 0 ≡ get_or b i 0
       → order_of (drop i a) (drop i b) ≡ order_of (drop (suc i) a) (drop (suc i) b)
-  order-next h k l = rw (drop-cons a i 0 h, drop-cons b i 0 k) (order-cons _ _ _ _ l)
+  order_next h k l = rw (drop-cons a i 0 h, drop-cons b i 0 k) (order-cons _ _ _ _ l)

@@ -101,15 +101,15 @@ module _ (st u after : Store) (p : Passes st) (b : Returned st u after) (l : Law
   word-now i h = sym (word_in after.words i h) ∙ ap (λ (ws : List ℕ). get_or ws i 0) b.words.front
 
   -- the limits are as they were: the parts have their lengths
-  pub most-kept : most u ≡ most st
-  most-kept =
+  pub most_kept : most u ≡ most st
+  most_kept =
       sym l.exact.records ∙ ap length (sym b.records.front) ∙ length-take-le (most st) after.records (omega (arith, b.records.long, p.0.records))
 
   pub room-kept : room u ≡ room st
   room-kept = sym l.exact.bytes ∙ ap length (sym b.bytes.front) ∙ length-take-le (room st) after.bytes (omega (arith, b.bytes.long, p.0.bytes))
 
-  pub most-now : most after ≡ most st
-  most-now = word-now most_at (omega arith) ∙ most-kept
+  pub most_now : most after ≡ most st
+  most_now = word-now most_at (omega arith) ∙ most_kept
 
   room-now : room after ≡ room st
   room-now = word-now room_at (omega arith) ∙ room-kept
@@ -117,21 +117,21 @@ module _ (st u after : Store) (p : Passes st) (b : Returned st u after) (l : Law
   heads-now : take (extent after) after.heads ≡ take (extent u) u.heads
   heads-now =
       ap (λ (n : ℕ). take n after.heads) (word-now extent_at (omega arith))
-      ∙ sym (take-take (extent u) (slots_for (most st)) after.heads (omega (arith, l.slotted, most-kept)))
+      ∙ sym (take-take (extent u) (slots_for (most st)) after.heads (omega (arith, l.slotted, most_kept)))
       ∙ ap (take (extent u)) b.heads.front
 
   pub core-now : core after ≡ trim u
   core-now =
-      same_store b.words.front (ap (λ (n : ℕ). take n after.records) most-now ∙ b.records.front) heads-now
-      (ap (λ (n : ℕ). take (4 * slots_for n) after.times) most-now ∙ b.times.front) b.paths.front
+      same_store b.words.front (ap (λ (n : ℕ). take n after.records) most_now ∙ b.records.front) heads-now
+      (ap (λ (n : ℕ). take (4 * slots_for n) after.times) most_now ∙ b.times.front) b.paths.front
       (ap (λ (n : ℕ). take n after.bytes) room-now ∙ b.bytes.front)
 
   pub long-now : Long after
   long-now = record {
     words = omega (arith, p.0.words, b.words.long);
-    records = omega (arith, p.0.records, b.records.long, most-now);
-    heads = omega (arith, p.0.heads, b.heads.long, most-now);
-    times = omega (arith, p.0.times, b.times.long, most-now);
+    records = omega (arith, p.0.records, b.records.long, most_now);
+    heads = omega (arith, p.0.heads, b.heads.long, most_now);
+    times = omega (arith, p.0.times, b.times.long, most_now);
     paths = omega (arith, p.0.paths, b.paths.long);
     bytes = omega (arith, p.0.bytes, b.bytes.long, room-now);
   }
@@ -148,6 +148,6 @@ module _ (st u after : Store) (p : Passes st) (b : Returned st u after) (l : Law
       record {
         words = x.words;
         heads = x.heads;
-        times = λ i. subst (λ (l : List ℤ). T (time_ok (get_or (take (4 * slots_for (most after)) l) i (pos 0)))) (sym e) (subst (λ (n : ℕ). T (time_ok (get_or (take (4 * slots_for n) st.times) i (pos 0)))) (sym most-now) (p.2.times i));
+        times = λ i. subst (λ (l : List ℤ). T (time_ok (get_or (take (4 * slots_for (most after)) l) i (pos 0)))) (sym e) (subst (λ (n : ℕ). T (time_ok (get_or (take (4 * slots_for n) st.times) i (pos 0)))) (sym most_now) (p.2.times i));
         bytes = x.bytes;
       }

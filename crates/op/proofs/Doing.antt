@@ -59,9 +59,9 @@ left_alone s h =
 -- ---- what an operation comes to
 
 module _ (p : Prog Reply) (s : State) where
-  by-outcome : (u : Store) (o after : Outputs) (r : ℕ) (x : Outcome) → settled p s ≡ x → r ≡ result_number x.result → after ≡ outputs_after x.result o → Shows u x.after
+  by_outcome : (u : Store) (o after : Outputs) (r : ℕ) (x : Outcome) → settled p s ≡ x → r ≡ result_number x.result → after ≡ outputs_after x.result o → Shows u x.after
       → Does p s u o after r
-  by-outcome u o after r x e n a h = record {
+  by_outcome u o after r x e n a h = record {
     number = n ∙ ap (λ (y : Outcome). result_number y.result) (sym e);
     answer = a ∙ ap (λ (y : Outcome). outputs_after y.result o) (sym e);
     shows = subst (λ (y : Outcome). Shows u y.after) (sym e) h;
@@ -70,13 +70,13 @@ module _ (p : Prog Reply) (s : State) where
   -- refused
   pub does-refused : (st : Store) → Shows st s → (o : Outputs) (r : ℕ) → run p (world_of s) ≡ refused r → Does p s st o o r
   unfolding settle
-  does-refused st h o r e = by-outcome st o o r (outcome (refusal r) s) (ap (settle s) e) refl refl h
+  does-refused st h o r e = by_outcome st o o r (outcome (refusal r) s) (ap (settle s) e) refl refl h
 
   -- done, and the store shows what is left
   pub does-done : (u : Store) (a : Reply) (v : World) → run p (world_of s) ≡ done a v → Shows u (state_of s v) → (o after : Outputs) → after ≡ written a o → Does p s u o after 0
   does-done u a v e h o after w =
       let f = shown-fits u (state_of s v) h in
-      by-outcome u o after 0 (outcome (accepted a) (state_of s v)) (ap (settle s) e ∙ settle-fits s a v f.0 f.1) refl w h
+      by_outcome u o after 0 (outcome (accepted a) (state_of s v)) (ap (settle s) e ∙ settle-fits s a v f.0 f.1) refl w h
 
   -- done without an edit
   pub does-told : (st : Store) → Shows st s → (a : Reply) → run p (world_of s) ≡ done a (world_of s) → (o after : Outputs) → after ≡ written a o → Does p s st o after 0
@@ -86,7 +86,7 @@ module _ (p : Prog Reply) (s : State) where
   pub does-full : (st : Store) → Shows st s → (o : Outputs) (a : Reply) (v : World) → run p (world_of s) ≡ done a v → (more grown freed : ℕ) → Uses s (state_of s v) more 0 grown freed
       → (r : ℕ) → r ≡ room_for s more grown freed → (r ≡ 0 → ⊥) → Does p s st o o r
   does-full st h o a v e more grown freed u r x z =
-      by-outcome st o o r (outcome (refusal r) s)
+      by_outcome st o o r (outcome (refusal r) s)
       (ap (settle s) e ∙ room-settles s a v grown freed more u ∙ decided_no (room_for s more grown freed) s (outcome (accepted a) (state_of s v)) (λ y. z (x ∙ y)) ∙ ap (λ (k : ℕ). outcome (refusal k) s) (sym x))
       refl refl h
 

@@ -73,9 +73,9 @@ module _ (step : Path → Prog model.There) (st : Store) (s : State) (text out :
   abbrev pub there : (k n : ℕ) → model.There
   there k n = record { path = names (take n out); kind = kind_from k; links = l.links }
 
-  pub led-there : {A : Type 0} (spot : Spot) (k n c : ℕ) → r ≡ led.There spot k n c → (f : model.There → Prog A)
+  pub led_there : {A : Type 0} (spot : Spot) (k n c : ℕ) → r ≡ led.There spot k n c → (f : model.There → Prog A)
       → run (step (names text) >>= f) (world_of s) ≡ run (f (there k n)) (world_of s)
-  led-there spot k n c e f =
+  led_there spot k n c e f =
       run_bind (step (names text)) f (world_of s) ∙ ap (λ (o : Out model.There). then o (λ a u. run (f a) u)) (l.answer ∙ ap (leads_to (world_of s) l.links out) e)
 
   pub led-refused : {A : Type 0} (n : ℕ) → r ≡ led.Refused n → (f : model.There → Prog A) → run (step (names text) >>= f) (world_of s) ≡ refused n

@@ -93,14 +93,14 @@ module _ (a b : Bytes) (k : ℕ) where
   unfolding all
   by_tests x y u v p q f g = rw (p, q, f, g) refl
 
-  pub first-bad : text a ≡ false → 2 ≡ result
-  first-bad p = sym (by_tests false (text b) (lengths_ok a) (lengths_ok b) p refl refl refl)
+  pub first_bad : text a ≡ false → 2 ≡ result
+  first_bad p = sym (by_tests false (text b) (lengths_ok a) (lengths_ok b) p refl refl refl)
 
   pub second-bad : text a ≡ true → text b ≡ false → 2 ≡ result
   second-bad p q = sym (by_tests true false (lengths_ok a) (lengths_ok b) p q refl refl)
 
-  pub first-long : text a ≡ true → text b ≡ true → lengths_ok a ≡ false → 3 ≡ result
-  first-long p q f = sym (by_tests true true false (lengths_ok b) p q f refl)
+  pub first_long : text a ≡ true → text b ≡ true → lengths_ok a ≡ false → 3 ≡ result
+  first_long p q f = sym (by_tests true true false (lengths_ok b) p q f refl)
 
   pub second-long : text a ≡ true → text b ≡ true → lengths_ok a ≡ true → lengths_ok b ≡ false → 3 ≡ result
   second-long p q f g = sym (by_tests true true true false p q f g)

@@ -34,8 +34,8 @@ module _ (st : Store) (s : State) (hide : ℕ) (text out : Bytes) (r : Walked) (
   w = world_of s
 
   -- the path that the walk came to
-  abbrev pub endPath : Path
-  endPath = names (take r.len out)
+  abbrev pub end_path : Path
+  end_path = names (take r.len out)
 
   -- what follows the walk
   ended : {A : Type 0} (f : model.Walked → Prog A) (e : End) → r.end ≡ e
@@ -45,14 +45,14 @@ module _ (st : Store) (s : State) (hide : ℕ) (text out : Bytes) (r : Walked) (
 
   -- ---- where the entry stands
 
-  pub found-stands : (spot : Spot) (k : ℕ) → r.end ≡ end.Found spot k → Stands st spot endPath
+  pub found-stands : (spot : Spot) (k : ℕ) → r.end ≡ end.Found spot k → Stands st spot end_path
   found-stands spot k e = (subst (EndPlaced st s w hide (take r.len out)) e l.place).0.at
 
-  pub link-stands : (spot : Spot) (d : ℕ) → r.end ≡ end.LastLink spot d → Stands st spot endPath
+  pub link-stands : (spot : Spot) (d : ℕ) → r.end ≡ end.LastLink spot d → Stands st spot end_path
   link-stands spot d e =
       subst (λ (t : Bytes). Stands st spot (names t)) (take-length (take r.len out)) (subst (EndPlaced st s w hide (take r.len out)) e l.place).there.at
 
-  link-kind : (spot : Spot) (d : ℕ) → r.end ≡ end.LastLink spot d → answer (kind? endPath) w ≡ some a_link
+  link-kind : (spot : Spot) (d : ℕ) → r.end ≡ end.LastLink spot d → answer (kind? end_path) w ≡ some a_link
   link-kind spot d e =
       subst (λ (t : Bytes). answer (kind? (names t)) w ≡ some a_link) (take-length (take r.len out)) (subst (EndPlaced st s w hide (take r.len out)) e l.place).link
 
@@ -71,11 +71,11 @@ module _ (st : Store) (s : State) (hide : ℕ) (text out : Bytes) (r : Walked) (
     unfolding symlink_metadata_at show_it end_there run ◌>>=◌
     symlink-missing gap a e = ended shows (end.Missing gap a) e
 
-    pub symlink-found : (spot : Spot) (k : ℕ) → r.end ≡ end.Found spot k → run (symlink_metadata_at lent (names text)) w ≡ run (show_it lent endPath l.links) w
+    pub symlink-found : (spot : Spot) (k : ℕ) → r.end ≡ end.Found spot k → run (symlink_metadata_at lent (names text)) w ≡ run (show_it lent end_path l.links) w
     unfolding symlink_metadata_at show_it end_there ◌>>=◌
     symlink-found spot k e = ended shows (end.Found spot k) e
 
-    pub symlink-link : (spot : Spot) (d : ℕ) → r.end ≡ end.LastLink spot d → run (symlink_metadata_at lent (names text)) w ≡ run (show_it lent endPath l.links) w
+    pub symlink-link : (spot : Spot) (d : ℕ) → r.end ≡ end.LastLink spot d → run (symlink_metadata_at lent (names text)) w ≡ run (show_it lent end_path l.links) w
     unfolding symlink_metadata_at show_it end_there ◌>>=◌
     symlink-link spot d e = ended shows (end.LastLink spot d) e
 
@@ -97,6 +97,6 @@ module _ (st : Store) (s : State) (hide : ℕ) (text out : Bytes) (r : Walked) (
     unfolding read_link_at tell_it only_link run ◌>>=◌
     target_found spot k e = ended reads (end.Found spot k) e
 
-    pub target-link : (spot : Spot) (d : ℕ) → r.end ≡ end.LastLink spot d → (t : Bytes) → Contents w endPath t → run (read_link_at lent (names text)) w ≡ run (tell_it lent t l.links) w
+    pub target-link : (spot : Spot) (d : ℕ) → r.end ≡ end.LastLink spot d → (t : Bytes) → Contents w end_path t → run (read_link_at lent (names text)) w ≡ run (tell_it lent t l.links) w
     unfolding read_link_at tell_it only_link run ◌>>=◌
     target-link spot d e t x = ended reads (end.LastLink spot d) e ∙ ap (λ (o : Option Bytes). run (tell_it lent (text_or o) l.links) w) (x.link (link-kind spot d e))

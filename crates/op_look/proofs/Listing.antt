@@ -68,8 +68,8 @@ module _ (st : Store) (s : State) (p : Path) (l : List (Name × Stat)) (first : 
   unfolding row_numbers stats_of
   given_none step b = record { out = []; left = l; whole = refl; place = refl; row = refl; next = b }
 
-  given-all : (rows : List ℤ) (at : ℕ) → Given st s p l first rows at End → rows ≡ in_front (numbers l) first
-  given-all rows at g =
+  given_all : (rows : List ℤ) (at : ℕ) → Given st s p l first rows at End → rows ≡ in_front (numbers l) first
+  given_all rows at g =
       g.row ∙ ap (λ (x : List (Name × Stat)). in_front (numbers x) first) (sym (append-nil g.out) ∙ ap (λ (x : List (Name × Stat)). g.out ++ x) (sym g.next) ∙ sym g.whole)
 
   module _ (rows : List ℤ) (at : ℕ) (spot : Spot) (g : Given st s p l first rows at (Entry spot)) where
@@ -127,7 +127,7 @@ module _ (has : Store → Store) (start : Step) (first : List ℤ) where
 
   module _ (rows : List ℤ) (at : ℕ) (step : Step) (f : Filling has start first rows at step) where
     pub fill_end : step ≡ End → (st : Store) (s : State) → Shows (has st) s → (p : Path) (l : List (Name × Stat)) → StepIs (has st) s p l start → rows ≡ in_front (numbers l) first
-    fill_end e st s h p l b = given-all (has st) s p l first rows at (subst (Given (has st) s p l first rows at) e (f.given st s h p l b))
+    fill_end e st s h p l b = given_all (has st) s p l first rows at (subst (Given (has st) s p l first rows at) e (f.given st s h p l b))
 
     module _ (spot : Spot) (e : step ≡ Entry spot) where
       turn : (st : Store) (s : State) → Shows (has st) s → (p : Path) (l : List (Name × Stat)) → StepIs (has st) s p l start → Given (has st) s p l first rows at (Entry spot)

@@ -26,7 +26,7 @@ use Rattle.walk.specs.declared.leads.Led.{Led}
 use Rattle.walk.specs.declared.leads.Led.TheVariants as led
 use Rattle.walk.specs.Leads.{Leads}
 use Rattle.op.specs.Lending.{in_both}
-use Rattle.op.proofs.Leading.{led-there, led-count, led-refused}
+use Rattle.op.proofs.Leading.{led_there, led-count, led-refused}
 
 -- ---- what is answered
 
@@ -90,7 +90,7 @@ module _ (st : Store) (s : State) (b lent rows : ℕ) (text out : Bytes) (r : Le
 
     goes : run (list_at b lent rows (names text)) w ≡ run (list_it lent rows (names (take n out)) (kind_from k) l.links) w
     unfolding list_at
-    goes = led-there (model.leads b) st s text out r l spot k n c e (λ t. list_it lent rows t.path t.kind t.links)
+    goes = led_there (model.leads b) st s text out r l spot k n c e (λ t. list_it lent rows t.path t.kind t.links)
 
     pub list-kind : (k ≡ 0 → ⊥) → run (list_at b lent rows (names text)) w ≡ refused 10
     list-kind z = goes ∙ other_run w lent rows (names (take n out)) k l.links z

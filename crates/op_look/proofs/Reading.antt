@@ -38,7 +38,7 @@ use Rattle.walk.specs.Leads.{LedPlaced, Leads}
 use Rattle.op.specs.Lending.{in_bytes, PutIs, put, short}
 use Rattle.op.specs.Doing.{Does}
 use Rattle.op.proofs.Doing.{does-refused, does-told}
-use Rattle.op.proofs.Leading.{led-there, led-refused}
+use Rattle.op.proofs.Leading.{led_there, led-refused}
 
 -- ---- bytes as an answer
 
@@ -128,10 +128,10 @@ module _ (st : Store) (s : State) (b lent : ℕ) (text out : Bytes) (r : Led) (l
   unfolding canonicalize_at tell_it
   canonical-refused n e = led-refused (model.leads b) st s text out r l n e (λ t. tell_it lent (render t.path) t.links)
 
-  pub canonical-there : (spot : Spot) (k n c : ℕ) → r ≡ led.There spot k n c
+  pub canonical_there : (spot : Spot) (k n c : ℕ) → r ≡ led.There spot k n c
       → run (canonicalize_at b lent (names text)) (world_of s) ≡ run (tell_it lent (render (names (take n out))) l.links) (world_of s)
   unfolding canonicalize_at tell_it
-  canonical-there spot k n c e = led-there (model.leads b) st s text out r l spot k n c e (λ t. tell_it lent (render t.path) t.links)
+  canonical_there spot k n c e = led_there (model.leads b) st s text out r l spot k n c e (λ t. tell_it lent (render t.path) t.links)
 
 -- what stands in front of the buffer is a path
 module _ (step : Path → Prog model.There) (st : Store) (s : State) (text out : Bytes) (r : Led) (l : Leads step st s (world_of s) text out r) where

@@ -30,7 +30,7 @@ use Rattle.walk.specs.Leads.{Leads}
 use Rattle.op.specs.Lending.{in_rows}
 use Rattle.op.specs.Doing.{Does}
 use Rattle.op.proofs.Doing.{shown-fits, does-refused, does-told}
-use Rattle.op.proofs.Leading.{row-short, row_fits, led-there, led-refused}
+use Rattle.op.proofs.Leading.{row-short, row_fits, led_there, led-refused}
 use Rattle.op_look.specs.Rows.{RowIs, put, short}
 
 -- ---- the size in a record
@@ -104,7 +104,7 @@ module _ (st : Store) (s : State) (b lent : ℕ) (text out : Bytes) (r : Led) (l
   unfolding metadata_at show_it
   metadata-refused n e = led-refused (model.leads b) st s text out r l n e (λ t. show_it lent t.path t.links)
 
-  pub metadata-there : (spot : Spot) (k n c : ℕ) → r ≡ led.There spot k n c
+  pub metadata_there : (spot : Spot) (k n c : ℕ) → r ≡ led.There spot k n c
       → run (metadata_at b lent (names text)) (world_of s) ≡ run (show_it lent (names (take n out)) l.links) (world_of s)
   unfolding metadata_at show_it
-  metadata-there spot k n c e = led-there (model.leads b) st s text out r l spot k n c e (λ t. show_it lent t.path t.links)
+  metadata_there spot k n c e = led_there (model.leads b) st s text out r l spot k n c e (λ t. show_it lent t.path t.links)

@@ -48,13 +48,13 @@ module _ (s : Bytes) (pos most : ℕ) where
       nothing [] e = refl
       nothing (x ∷ l) e = absurd (omega (arith, e))
 
-  pub behind-all : length s - pos ≤ most → take (length s - pos) (drop pos s) ≡ take most (drop pos s)
-  behind-all h =
+  pub behind_all : length s - pos ≤ most → take (length s - pos) (drop pos s) ≡ take most (drop pos s)
+  behind_all h =
       let l = length-drop pos s in
       take_all (length s - pos) (drop pos s) (omega (arith, l)) ∙ sym (take_all most (drop pos s) (omega (arith, l)))
 
-  pub behind-some : take (pos + most - pos) (drop pos s) ≡ take most (drop pos s)
-  behind-some = let e : pos + most - pos ≡ most = omega arith in ap (λ (k : ℕ). take k (drop pos s)) e
+  pub behind_some : take (pos + most - pos) (drop pos s) ≡ take most (drop pos s)
+  behind_some = let e : pos + most - pos ≡ most = omega arith in ap (λ (k : ℕ). take k (drop pos s)) e
 
   -- the position behind them
   pub behind-low : pos < 2 ^ 64 → length s < 2 ^ 63 → (r : Bytes) → r ≡ take most (drop pos s) → pos + length r < 2 ^ 64

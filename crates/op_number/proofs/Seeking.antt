@@ -14,28 +14,28 @@ module _ (size offset : ℕ) (w : World) where
   abbrev sum : ℕ
   sum = sum_above size offset
 
-  from-run : run (seek_from 2 offset 0 size) w ≡ allowed (leb (2 ^ 63) sum && ltb sum (2 ^ 64)) bad_seek (done (sum - 2 ^ 63) w)
+  from_run : run (seek_from 2 offset 0 size) w ≡ allowed (leb (2 ^ 63) sum && ltb sum (2 ^ 64)) bad_seek (done (sum - 2 ^ 63) w)
   unfolding seek_from from_end run
-  from-run = need-run (leb (2 ^ 63) sum && ltb sum (2 ^ 64)) bad_seek (ret (sum - 2 ^ 63)) w
+  from_run = need-run (leb (2 ^ 63) sum && ltb sum (2 ^ 64)) bad_seek (ret (sum - 2 ^ 63)) w
 
   -- a place
-  pub end-at : (k : ℕ) → sum ≡ k + 2 ^ 63 → k < 2 ^ 63 → run (seek_from 2 offset 0 size) w ≡ done k w
-  end-at k e h =
+  pub end_at : (k : ℕ) → sum ≡ k + 2 ^ 63 → k < 2 ^ 63 → run (seek_from 2 offset 0 size) w ≡ done k w
+  end_at k e h =
       let x : leb (2 ^ 63) sum ≡ true = le-leb (2 ^ 63) sum (omega (arith, e)) in
       let y : ltb sum (2 ^ 64) ≡ true = lt-ltb sum (2 ^ 64) (omega (arith, e)) in
       let z : sum - 2 ^ 63 ≡ k = omega (arith, e) in
-      from-run ∙ (λ i. allowed (x i && y i) bad_seek (done (z i) w))
+      from_run ∙ (λ i. allowed (x i && y i) bad_seek (done (z i) w))
 
   -- below 0
   pub end_below : sum < 2 ^ 63 → run (seek_from 2 offset 0 size) w ≡ refused bad_seek
-  end_below h = from-run ∙ ap (λ (b : Bool). allowed (b && ltb sum (2 ^ 64)) bad_seek (done (sum - 2 ^ 63) w)) (lt-leb (2 ^ 63) sum h)
+  end_below h = from_run ∙ ap (λ (b : Bool). allowed (b && ltb sum (2 ^ 64)) bad_seek (done (sum - 2 ^ 63) w)) (lt-leb (2 ^ 63) sum h)
 
   -- above 2^63 - 1
   pub end-above : 2 ^ 64 ≤ sum → run (seek_from 2 offset 0 size) w ≡ refused bad_seek
   end-above h =
       let x : leb (2 ^ 63) sum ≡ true = le-leb (2 ^ 63) sum (omega arith) in
       let y : ltb sum (2 ^ 64) ≡ false = le-ltb sum (2 ^ 64) h in
-      from-run ∙ (λ i. allowed (x i && y i) bad_seek (done (sum - 2 ^ 63) w))
+      from_run ∙ (λ i. allowed (x i && y i) bad_seek (done (sum - 2 ^ 63) w))
 
 -- the sum of an offset of 0 or above, and of one below
 pub sum_up : (size offset : ℕ) → offset < 2 ^ 63 → sum_above size offset ≡ size + offset + 2 ^ 63

@@ -16,7 +16,7 @@ use Rattle.ask_find.specs.declared.Spot.{Spot}
 use Rattle.walk.specs.declared.leads.Led.{Led}
 use Rattle.walk.specs.declared.leads.Led.TheVariants as led
 use Rattle.walk.specs.Leads.{Leads}
-use Rattle.op.proofs.Leading.{led-there, led-refused, led-count}
+use Rattle.op.proofs.Leading.{led_there, led-refused, led-count}
 
 pub umask-run : (m old : ℕ) (w : World) → answer mask? w ≡ old → run (umask_to m) w ≡ done (number_reply old 0) (apply (umask m) w)
 unfolding umask_to run ◌>>=◌ ◌>>◌
@@ -35,5 +35,5 @@ module _ (st : Store) (s : State) (b : ℕ) (text out : Bytes) (r : Led) (l : Le
       → run (set_current_dir_at b (names text)) (world_of s) ≡ done (plain_reply c) (apply (go (names (take n out))) (world_of s))
   unfolding set_current_dir_at run ◌>>=◌ ◌>>◌
   current-set spot k n c e =
-      led-there (model.leads b) st s text out r l spot k n c e goes
+      led_there (model.leads b) st s text out r l spot k n c e goes
       ∙ ap (λ (m : ℕ). done (plain_reply m) (apply (go (names (take n out))) (world_of s))) (led-count (model.leads b) st s text out r l spot k n c e)

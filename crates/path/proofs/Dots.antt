@@ -12,10 +12,10 @@ use Rattle.path.specs.Path.{Name, same, vanishes, is_up}
 use Rattle.path.specs.Backward.{kind_by, kind_of}
 
 module _ (strike : Bool) where
-  pub kind-none : (n : Name) → length n ≡ 0 → kind_of strike n ≡ 0
+  pub kind_none : (n : Name) → length n ≡ 0 → kind_of strike n ≡ 0
   unfolding kind_of vanishes same
-  kind-none [] h = refl
-  kind-none (b ∷ n) h = absurd (omega arith)
+  kind_none [] h = refl
+  kind_none (b ∷ n) h = absurd (omega arith)
 
   pub kind-long : (n : Name) → 2 < length n → kind_of strike n ≡ 2
   unfolding kind_of vanishes is_up same
@@ -29,11 +29,11 @@ module _ (strike : Bool) where
       go true false = refl
       go false u = refl
 
-  pub kind-other : (n : Name) → 0 < length n → (get_or n 0 0 ≡ 46 → ⊥) → kind_of strike n ≡ 2
+  pub kind_other : (n : Name) → 0 < length n → (get_or n 0 0 ≡ 46 → ⊥) → kind_of strike n ≡ 2
   unfolding kind_of vanishes is_up same
-  kind-other [] l h = absurd (omega arith)
-  kind-other (b ∷ []) l h = rw (ne_eqb b 46 h)
-  kind-other (b ∷ c ∷ n) l h = rw (ne_eqb b 46 h)
+  kind_other [] l h = absurd (omega arith)
+  kind_other (b ∷ []) l h = rw (ne_eqb b 46 h)
+  kind_other (b ∷ c ∷ n) l h = rw (ne_eqb b 46 h)
 
   pub kind-dot : (n : Name) → length n ≡ 1 → get_or n 0 0 ≡ 46 → kind_of strike n ≡ 0
   unfolding kind_of vanishes is_up same
@@ -52,18 +52,18 @@ module _ (strike : Bool) where
       go false = refl
   kind_two (b ∷ c ∷ d ∷ n) l k = absurd (omega arith)
 
-  kind-up : (n : Name) → length n ≡ 2 → get_or n 0 0 ≡ 46 → get_or n 1 0 ≡ 46 → kind_of strike n ≡ kind_by strike false true
+  kind_up : (n : Name) → length n ≡ 2 → get_or n 0 0 ≡ 46 → get_or n 1 0 ≡ 46 → kind_of strike n ≡ kind_by strike false true
   unfolding kind_of vanishes is_up same
-  kind-up [] l h k = absurd (omega arith)
-  kind-up (b ∷ []) l h k = absurd (omega arith)
-  kind-up (b ∷ c ∷ []) l h k = rw (h, k)
-  kind-up (b ∷ c ∷ d ∷ n) l h k = absurd (omega arith)
+  kind_up [] l h k = absurd (omega arith)
+  kind_up (b ∷ []) l h k = absurd (omega arith)
+  kind_up (b ∷ c ∷ []) l h k = rw (h, k)
+  kind_up (b ∷ c ∷ d ∷ n) l h k = absurd (omega arith)
 
 pub kind-struck : (strike : Bool) (n : Name) → length n ≡ 2 → get_or n 0 0 ≡ 46 → get_or n 1 0 ≡ 46 → strike ≡ true → kind_of strike n ≡ 1
-kind-struck strike n l h k e = rw e (kind-up true n l h k)
+kind-struck strike n l h k e = rw e (kind_up true n l h k)
 
 pub kind-named : (strike : Bool) (n : Name) → length n ≡ 2 → get_or n 0 0 ≡ 46 → get_or n 1 0 ≡ 46 → strike ≡ false → kind_of strike n ≡ 2
-kind-named strike n l h k e = rw e (kind-up false n l h k)
+kind-named strike n l h k e = rw e (kind_up false n l h k)
 
 kind-small : (strike : Bool) (n : Name) → kind_of strike n ≤ 2
 unfolding kind_of

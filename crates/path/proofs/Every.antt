@@ -23,10 +23,10 @@ module _ (P : Name → Type 0) where
   every-second [] y h = h
   every-second (n ∷ x) y h = every-second x y h.1
 
-  pub every-dropLast : (ns : List Name) → Every P ns → Every P (drop_last ns)
-  every-dropLast [] h = tt
-  every-dropLast (n ∷ []) h = tt
-  every-dropLast (n ∷ m ∷ ns) h = (h.0, every-dropLast (m ∷ ns) h.1)
+  pub every-drop_last : (ns : List Name) → Every P ns → Every P (drop_last ns)
+  every-drop_last [] h = tt
+  every-drop_last (n ∷ []) h = tt
+  every-drop_last (n ∷ m ∷ ns) h = (h.0, every-drop_last (m ∷ ns) h.1)
 
   -- what holds of the pieces holds of the names
   pub every-keep : (ns : List Name) → Every P ns → Every P (keep ns)
@@ -45,5 +45,5 @@ module _ (P : Name → Type 0) where
   every-norm base (n ∷ ns) b h = every-norm (cond (is_up n) (drop_last base) (base ++ (n ∷ []))) ns (go (is_up n)) h.1
     where
       go : (t : Bool) → Every P (cond t (drop_last base) (base ++ (n ∷ [])))
-      go true = every-dropLast base b
+      go true = every-drop_last base b
       go false = every_append base (n ∷ []) b (h.0, tt)

@@ -19,7 +19,7 @@ use Rattle.path.specs.Answer.{AllNames, Clean, EndIs, PieceIs, PlainIs}
 use Rattle.path.specs.declared.answer.Plain.{Plain}
 use Rattle.path.specs.declared.answer.Plain.TheVariants.{From}
 use Rattle.path.proofs.Cutting.{first, front-part, part-empty, part-cons, part_length, piece_is}
-use Rattle.path.proofs.Dots.{kind-none, kind-other}
+use Rattle.path.proofs.Dots.{kind_none, kind_other}
 use Rattle.path.proofs.Dropping.{body-pieces}
 use Rattle.path.proofs.Every.{Every}
 use Rattle.path.proofs.Reading.{sift-append, back-gone, read_none, read-gone}
@@ -55,7 +55,7 @@ unfolding sift
 named-kept strike [] h = refl
 named-kept strike (n ∷ ns) h =
     ap (λ (z : Sifted). sift_one (kind_of strike n) n z) (named-kept strike ns h.1)
-    ∙ ap (λ (k : ℕ). sift_one k n (mk 0 ns)) (kind-other strike n h.0.some h.0.begins)
+    ∙ ap (λ (k : ℕ). sift_one k n (mk 0 ns)) (kind_other strike n h.0.some h.0.begins)
 
 pub all-names : (s : Bytes) → Follows 47 s → AllNames s
 unfolding Tail
@@ -107,7 +107,7 @@ module _ (s : Bytes) (e : ℕ) (fits : e ≤ length s) (last : get_or s (e - 1) 
 -- ---- what stands beside the names
 
 one_gone : (strike : Bool) (z : Sifted) → sift_one (kind_of strike []) [] z ≡ z
-one_gone strike z = ap (λ (k : ℕ). sift_one k [] z) (kind-none strike [] refl)
+one_gone strike z = ap (λ (k : ℕ). sift_one k [] z) (kind_none strike [] refl)
 
 -- no text keeps nothing
 pub sifted-empty : (strike : Bool) (k : ℕ) (s : Bytes) → length s ≡ 0 → sifted strike k s ≡ mk k []
@@ -127,7 +127,7 @@ end-slash s l q =
       omega arith,
       λ strike.
           let piece : PieceIs s (length s) (length s + 1 - 1) = rw n (piece_is s (length s) (length s) (le_refl (length s)) (le_refl (length s)) (rw part-empty tt) (λ _. q)) in
-          let k : kind_of strike (part (length s) (length s + 1 - 1) s) ≡ 0 = rw (n, part-empty (length s) s) (kind-none strike [] refl) in
+          let k : kind_of strike (part (length s) (length s + 1 - 1) s) ≡ 0 = rw (n, part-empty (length s) s) (kind_none strike [] refl) in
           rw p (read-gone strike s 0 (length s + 1) 0 (length s) [] (read_none strike s 0) 0 (back-gone strike s (length s + 1) (length s) (omega arith) piece 0 k)).same,
     )
 

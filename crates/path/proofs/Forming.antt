@@ -78,8 +78,8 @@ module _ (a b out mid after : Bytes) (first last : ℕ) (ea : first ≡ length a
       ∙ ap (λ (x : Bytes). a ++ x) (ap (λ (x : Bytes). drop first x) m ∙ drop_at (take first out) (b ++ drop (first + last) out) first l)
       ∙ sym (append_assoc a b (drop (first + last) out)) ∙ ap (λ (k : ℕ). (a ++ b) ++ drop k out) n
 
-  pub forms-both : first + last ≤ 1024 → Forms (a ++ b) out after (Text (first + last))
-  forms-both h =
+  pub forms_both : first + last ≤ 1024 → Forms (a ++ b) out after (Text (first + last))
+  forms_both h =
       let n : first + last ≡ length (a ++ b) = omega (arith, length-append a b) in
       forms-text (a ++ b) out after (first + last) (omega arith) n both_stored
 

@@ -18,13 +18,13 @@ no_slash_more (c ∷ n) b h q = (h.0, no_slash_more n b h.1 q)
 
 module _ (s : Bytes) (a j : ℕ) where
   -- a byte more that is no slash
-  pub piece-more : a + j < length s → NoSlash (take j (drop a s)) → (get_or s (a + j) 0 ≡ 47 → ⊥) → NoSlash (take (j + 1) (drop a s))
-  piece-more l h q =
+  pub piece_more : a + j < length s → NoSlash (take j (drop a s)) → (get_or s (a + j) 0 ≡ 47 → ⊥) → NoSlash (take (j + 1) (drop a s))
+  piece_more l h q =
       rw (add-one j, take-suc (drop a s) j 0 (omega (arith, length-drop a s)), get_or-drop a s j 0)
       (no_slash_more (take j (drop a s)) (get_or s (a + j) 0) h q)
 
   behind-start : a + j - a ≡ j
   behind-start = omega arith
 
-  pub piece-whole : a + j ≤ length s → NoSlash (take j (drop a s)) → (0 < a → get_or s (a - 1) 0 ≡ 47) → (a + j < length s → get_or s (a + j) 0 ≡ 47) → WholeIs s a (a + j)
-  piece-whole l h f q = record { piece = piece_is s a (a + j) (omega arith) l (rw behind-start h) f; fits = l; stop = q }
+  pub piece_whole : a + j ≤ length s → NoSlash (take j (drop a s)) → (0 < a → get_or s (a - 1) 0 ≡ 47) → (a + j < length s → get_or s (a + j) 0 ≡ 47) → WholeIs s a (a + j)
+  piece_whole l h f q = record { piece = piece_is s a (a + j) (omega arith) l (rw behind-start h) f; fits = l; stop = q }

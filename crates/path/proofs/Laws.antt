@@ -15,7 +15,7 @@ use Rattle.text.proofs.Laws.{text_none, text-append, text-cut, text-ascii}
 use Rattle.path.specs.Path.{Name, same, pieces, vanishes, is_up, keep, names, norm, normal, is_absolute, from, absolute, body, render, all_short, lengths_ok, path_fits, no_slash, proper, all_proper}
 use Rattle.path.proofs.Cutting.{NoSlash, pieces_no_slash}
 use Rattle.path.proofs.Dropping.{pieces-body, body-pieces}
-use Rattle.path.proofs.Every.{Every, every_append, every-dropLast, every-keep, every-norm}
+use Rattle.path.proofs.Every.{Every, every_append, every-drop_last, every-keep, every-norm}
 
 -- ---- tests
 
@@ -121,7 +121,7 @@ norm-proper base [] b h = b
 norm-proper base (n ∷ ns) b h = norm-proper (cond (is_up n) (drop_last base) (base ++ (n ∷ []))) ns (go (is_up n) refl) h.1
   where
     go : (t : Bool) → is_up n ≡ t → Every (λ m. T (proper m)) (cond t (drop_last base) (base ++ (n ∷ [])))
-    go true e = every-dropLast (λ m. T (proper m)) base b
+    go true e = every-drop_last (λ m. T (proper m)) base b
     go false e =
         every_append (λ m. T (proper m)) base (n ∷ []) b
         (shown-proper n h.0 (subst (λ (t : Bool). T (not t)) (sym e) tt), tt)

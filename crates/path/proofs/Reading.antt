@@ -26,33 +26,33 @@ sift-append strike (n ∷ x) y z = ap (λ (r : Sifted). sift_one (kind_of strike
 
 -- the last piece is read first
 module _ (strike : Bool) (s : Bytes) (rest a : ℕ) (pos : 0 < rest) (piece : PieceIs s a (rest - 1)) where
-  sift-last : (z : Sifted) (k : ℕ) → kind_of strike (part a (rest - 1) s) ≡ k
+  sift_last : (z : Sifted) (k : ℕ) → kind_of strike (part a (rest - 1) s) ≡ k
       → sift strike (front rest s) z ≡ sift strike (front a s) (sift_one k (part a (rest - 1) s) z)
   unfolding sift
-  sift-last z k q =
+  sift_last z k q =
       let p : rest ≡ rest - 1 + 1 = omega arith in
       ap (λ (x : ℕ). sift strike (front x s) z) p ∙ ap (λ (x : List Name). sift strike x z) piece.last
       ∙ sift-append strike (front a s) (part a (rest - 1) s ∷ []) z
       ∙ ap (λ (x : ℕ). sift strike (front a s) (sift_one x (part a (rest - 1) s) z)) q
 
   pub back-gone : (skip : ℕ) → kind_of strike (part a (rest - 1) s) ≡ 0 → BackIs strike s rest skip (Gone a skip)
-  back-gone skip q = (omega (arith, piece.fits), omega arith, λ ns. sift-last (mk skip ns) 0 q)
+  back-gone skip q = (omega (arith, piece.fits), omega arith, λ ns. sift_last (mk skip ns) 0 q)
 
-  pub back-up : (skip : ℕ) → kind_of strike (part a (rest - 1) s) ≡ 1 → BackIs strike s rest skip (Gone a (skip + 1))
-  back-up skip q = (omega (arith, piece.fits), omega arith, λ ns. rw add-one (sift-last (mk skip ns) 1 q))
+  pub back_up : (skip : ℕ) → kind_of strike (part a (rest - 1) s) ≡ 1 → BackIs strike s rest skip (Gone a (skip + 1))
+  back_up skip q = (omega (arith, piece.fits), omega arith, λ ns. rw add-one (sift_last (mk skip ns) 1 q))
 
   pub back-dropped : (skip : ℕ) → kind_of strike (part a (rest - 1) s) ≡ 2 → 0 < skip → BackIs strike s rest skip (Gone a (skip - 1))
   back-dropped skip q h =
       let p : skip ≡ suc (skip - 1) = omega arith in (
         omega (arith, piece.fits),
         omega arith,
-        λ ns. sift-last (mk skip ns) 2 q ∙ ap (λ (x : ℕ). sift strike (front a s) (keep_one x (part a (rest - 1) s) ns)) p,
+        λ ns. sift_last (mk skip ns) 2 q ∙ ap (λ (x : ℕ). sift strike (front a s) (keep_one x (part a (rest - 1) s) ns)) p,
       )
 
   pub back-kept : (skip : ℕ) → kind_of strike (part a (rest - 1) s) ≡ 2 → skip ≡ 0 → BackIs strike s rest skip (Keeps a)
   back-kept skip q h = (
     omega (arith, piece.fits),
-    λ ns. sift-last (mk skip ns) 2 q ∙ ap (λ (x : ℕ). sift strike (front a s) (keep_one x (part a (rest - 1) s) ns)) h
+    λ ns. sift_last (mk skip ns) 2 q ∙ ap (λ (x : ℕ). sift strike (front a s) (keep_one x (part a (rest - 1) s) ns)) h
         ∙ ap (λ (x : ℕ). sift strike (front a s) (mk x (part a (rest - 1) s ∷ ns))) (sym h),
     h,
     piece,
@@ -76,12 +76,12 @@ keep-norm zero n base ns = append_snoc base n ns
 keep-norm (suc k) n base ns = ap (λ (r : List Name). drop_n k r ++ ns) (drop_last-snoc base n)
 
 module _ (ps : List Name) (k : ℕ) (z : Sifted) (ih : (base : List Name) → drop_n k (norm base (keep ps)) ≡ drop_n z.skip base ++ z.kept) where
-  one-norm : (n : Name) (base : List Name) (v u : Bool) → is_up n ≡ u
+  one_norm : (n : Name) (base : List Name) (v u : Bool) → is_up n ≡ u
       → drop_n k (norm base (cond v [] (n ∷ []) ++ keep ps)) ≡ drop_n (sift_one (kind_by true v u) n z).skip base ++ (sift_one (kind_by true v u) n z).kept
   unfolding norm drop_n
-  one-norm n base true u e = ih base
-  one-norm n base false true e = ap (λ (t : Bool). drop_n k (norm (cond t (drop_last base) (base ++ (n ∷ []))) (keep ps))) e ∙ ih (drop_last base)
-  one-norm n base false false e =
+  one_norm n base true u e = ih base
+  one_norm n base false true e = ap (λ (t : Bool). drop_n k (norm (cond t (drop_last base) (base ++ (n ∷ []))) (keep ps))) e ∙ ih (drop_last base)
+  one_norm n base false false e =
       ap (λ (t : Bool). drop_n k (norm (cond t (drop_last base) (base ++ (n ∷ []))) (keep ps))) e
       ∙ (ih (base ++ (n ∷ [])) ∙ keep-norm z.skip n base z.kept)
 
@@ -89,7 +89,7 @@ sift-norm : (ps : List Name) (k : ℕ) (base : List Name)
     → drop_n k (norm base (keep ps)) ≡ drop_n (sift true ps (mk k [])).skip base ++ (sift true ps (mk k [])).kept
 unfolding norm keep sift kind_of
 sift-norm [] k base = sym (append-nil (drop_n k base))
-sift-norm (n ∷ ps) k base = one-norm ps k (sift true ps (mk k [])) (sift-norm ps k) n base (vanishes n) (is_up n) refl
+sift-norm (n ∷ ps) k base = one_norm ps k (sift true ps (mk k [])) (sift-norm ps k) n base (vanishes n) (is_up n) refl
 
 -- a path behind a directory, less its last k names: the directory without what the path drops, and then what the path keeps
 pub norm-sifted : (k : ℕ) (base : List Name) (s : Bytes)

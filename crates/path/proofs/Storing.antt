@@ -47,9 +47,9 @@ module _ (before out : Bytes) (at end : ℕ) (kept : List Name) (w : Stored befo
       }
 
   -- all names
-  pub stored-all : (strike : Bool) (s : Bytes) (k skip : ℕ) → Read strike s k 0 skip kept
+  pub stored_all : (strike : Bool) (s : Bytes) (k skip : ℕ) → Read strike s k 0 skip kept
       → out ≡ take (end - length (body (sifted strike k s).kept)) before ++ (body (sifted strike k s).kept ++ drop end before)
-  stored-all strike s k skip r =
+  stored_all strike s k skip r =
       let p : end - length (body kept) ≡ at = omega (arith, w.width) in
       rw (read_all strike s k skip kept r, p)
       (sym (take-append-drop at out) ∙ ap (λ (x : Bytes). x ++ drop at out) w.front ∙ ap (λ (x : Bytes). take at before ++ x) w.back)

@@ -64,8 +64,8 @@ Rest s i = all_short (pieces s) ≡ all_short (pieces (part i (length s) s))
 
 module _ (s : Bytes) where
   -- at the start
-  pub rest-whole : Rest s 0
-  rest-whole = let n : length s - 0 ≡ length s = omega arith in rw (n, take-length)
+  pub rest_whole : Rest s 0
+  rest_whole = let n : length s - 0 ≡ length s = omega arith in rw (n, take-length)
 
   module _ (i : ℕ) (w : Rest s i) where
     -- a slash at most 256 bytes on: the pieces before it are short

@@ -16,21 +16,21 @@ module _ {A : Type 0} (f : A → A) where
   each_append [] b = refl
   each_append (x ∷ a) b = ap (λ (l : List A). f x ∷ l) (each_append a b)
 
-  pub length-each : (a : List A) → length (each f a) ≡ length a
+  pub length_each : (a : List A) → length (each f a) ≡ length a
   unfolding each
-  length-each [] = refl
-  length-each (x ∷ a) = ap suc (length-each a)
+  length_each [] = refl
+  length_each (x ∷ a) = ap suc (length_each a)
 
 module _ (f : ℕ → ℕ) where
-  pub change-none : (s : List ℕ) (a : ℕ) → s ≡ changed f s a a
+  pub change_none : (s : List ℕ) (a : ℕ) → s ≡ changed f s a a
   unfolding each
-  change-none s a = sym (ap (λ (l : List ℕ). take a s ++ (each f l ++ drop a s)) (none_between s a) ∙ take-append-drop a s)
+  change_none s a = sym (ap (λ (l : List ℕ). take a s ++ (each f l ++ drop a s)) (none_between s a) ∙ take-append-drop a s)
 
   module _ (s₀ s : List ℕ) (a j : ℕ) (h : a ≤ j) (l : j < length s₀) (e : s ≡ changed f s₀ a j) where
     front : length (take a s₀ ++ each f (drop a (take j s₀))) ≡ j
     front =
         length-append (take a s₀) (each f (drop a (take j s₀)))
-        ∙ omega (arith, length-take-le a s₀ (omega arith), length-each f (drop a (take j s₀)), length-slice a j s₀ (omega arith))
+        ∙ omega (arith, length-take-le a s₀ (omega arith), length_each f (drop a (take j s₀)), length-slice a j s₀ (omega arith))
 
     shape : s ≡ (take a s₀ ++ each f (drop a (take j s₀))) ++ (get_or s₀ j 0 ∷ drop (suc j) s₀)
     shape =

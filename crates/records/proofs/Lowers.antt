@@ -100,8 +100,8 @@ module _ (ws bs : List ℕ) (count i e s : ℕ) (x : List ℕ) (h₁ : i < e) (h
   cut-set : take count ws₁ ≡ set (take count ws) i w₁
   cut-set = take-set-lt count ws i w₁ (omega arith)
 
-  total-same : name_total (take count ws₁) ≡ name_total (take count ws)
-  total-same = ap name_total cut-set ∙ total-put (take count ws) i w₁ (n₁ ∙ ap nlen_of (sym here))
+  total_same : name_total (take count ws₁) ≡ name_total (take count ws)
+  total_same = ap name_total cut-set ∙ total-put (take count ws) i w₁ (n₁ ∙ ap nlen_of (sym here))
 
   long_same : length ws₁ ≡ length ws
   long_same = length-set ws i w₁
@@ -111,7 +111,7 @@ module _ (ws bs : List ℕ) (count i e s : ℕ) (x : List ℕ) (h₁ : i < e) (h
     L = changed (lift 1 0) (take count ws₁) (i + 1) e
 
     fits : name_total (take count ws₁) ≤ length bs
-    fits = omega (arith, total-same, hn)
+    fits = omega (arith, total_same, hn)
 
     L-long : length L ≡ count
     L-long = size₁ ws₁ bs ws₂ count (i + 1) e 1 0 (omega (arith, h₁)) h₂ (omega (arith, long_same, h₃)) fits ready c
@@ -122,7 +122,7 @@ module _ (ws bs : List ℕ) (count i e s : ℕ) (x : List ℕ) (h₁ : i < e) (h
         ∙ (ap (λ (k : ℕ). take k L) (sym L-long) ∙ take-length L)
 
     pub total_kept : name_total (take count ws₂) ≡ name_total (take count ws)
-    total_kept = ap name_total front ∙ (total₁ ws₁ bs ws₂ count (i + 1) e 1 0 (omega (arith, h₁)) h₂ (omega (arith, long_same, h₃)) fits ready c ∙ total-same)
+    total_kept = ap name_total front ∙ (total₁ ws₁ bs ws₂ count (i + 1) e 1 0 (omega (arith, h₁)) h₂ (omega (arith, long_same, h₃)) fits ready c ∙ total_same)
 
     pub long_kept : length ws₂ ≡ length ws
     long_kept = ap length c ∙ (length-changed (lift 1 0) ws₁ (i + 1) e (omega (arith, h₁)) (omega (arith, long_same, h₂, h₃)) ∙ long_same)

@@ -16,7 +16,7 @@ use Rattle.layout.specs.Rows.{Row, rows, name_total}
 use Rattle.records.specs.Blocks.{each, changed, lift, raise, raised, move_to, Liftable, Moved}
 use Rattle.layout.proofs.Named.{total-append, total-split, length-rows, rows_take, rows_drop}
 use Rattle.records.proofs.Entries.{total_up, total-take, rows_short, rows-cat, rows-around, drop-later}
-use Rattle.records.proofs.Lifts.{length-each, depth-lift, nlen-lift, slot-lift}
+use Rattle.records.proofs.Lifts.{length_each, depth-lift, nlen-lift, slot-lift}
 
 -- ---- entries raised
 
@@ -25,24 +25,24 @@ abbrev Ready : ℕ → ℕ → List ℕ → Type 0
 Ready u d ws = (j : ℕ) → j < length ws → Liftable (get_or ws j 0) u d
 
 module _ (u d : ℕ) where
-  rows-each : (ws bs : List ℕ) → Ready u d ws → rows (each (lift u d) ws) bs ≡ each (raise u d) (rows ws bs)
+  rows_each : (ws bs : List ℕ) → Ready u d ws → rows (each (lift u d) ws) bs ≡ each (raise u d) (rows ws bs)
   unfolding rows each
-  rows-each [] bs h = refl
-  rows-each (w ∷ ws) bs h =
+  rows_each [] bs h = refl
+  rows_each (w ∷ ws) bs h =
       let l : Liftable w u d = h 0 (omega arith) in
       let t = depth-lift w u d l in
       let n : nlen_of (lift u d w) ≡ nlen_of w = nlen-lift w u d l in
       let k = slot-lift w u d l in
       let f : Row = record { depth = depth_of w + u - d; name = take (nlen_of w) bs; slot = slot_of w } in
       (λ i. record { depth = t i; name = take (n i) bs; slot = k i } ∷ rows (each (lift u d) ws) (drop (n i) bs))
-      ∙ ap (λ (r : List Row). f ∷ r) (rows-each ws (drop (nlen_of w) bs) (λ j x. h (suc j) (omega arith)))
+      ∙ ap (λ (r : List Row). f ∷ r) (rows_each ws (drop (nlen_of w) bs) (λ j x. h (suc j) (omega arith)))
 
-  total-each : (ws : List ℕ) → Ready u d ws → name_total (each (lift u d) ws) ≡ name_total ws
+  total_each : (ws : List ℕ) → Ready u d ws → name_total (each (lift u d) ws) ≡ name_total ws
   unfolding name_total each
-  total-each [] h = refl
-  total-each (w ∷ ws) h =
+  total_each [] h = refl
+  total_each (w ∷ ws) h =
       let n = nlen-lift w u d (h 0 (omega arith)) in
-      let r = total-each ws (λ j x. h (suc j) (omega arith)) in
+      let r = total_each ws (λ j x. h (suc j) (omega arith)) in
       λ i. n i + r i
 
   module _ (ws : List ℕ) (a b : ℕ) (h₁ : a ≤ b) (h₂ : b ≤ length ws) (hl : (j : ℕ) → a ≤ j → j < b → Liftable (get_or ws j 0) u d) where
@@ -56,7 +56,7 @@ module _ (u d : ℕ) where
     total-lifted =
         let X : List ℕ = drop a (take b ws) in
         total-append (take a ws) (each (lift u d) X ++ drop b ws)
-        ∙ omega (arith, total-append (each (lift u d) X) (drop b ws), total-each X part-ready, total_up ws a b h₁, total-split ws b)
+        ∙ omega (arith, total-append (each (lift u d) X) (drop b ws), total_each X part-ready, total_up ws a b h₁, total-split ws b)
 
     pub rows-lifted : (bs : List ℕ) → name_total ws ≤ length bs → rows (changed (lift u d) ws a b) bs ≡ raised (rows ws bs) a b u d
     rows-lifted bs hn =
@@ -79,8 +79,8 @@ module _ (u d : ℕ) where
         ∙ ap (drop a) (rows_take ws bs b) in
         ap (rows (changed (lift u d) ws a b)) (thirds bs o m (omega arith))
         ∙ rows-around ws bs (each (lift u d) X ++ Z) (S ++ drop m bs) a o refl (omega arith)
-        ∙ ap (λ (r : List Row). take a R ++ r) (rows-cat (each (lift u d) X) Z S (drop m bs) (l_s ∙ sym (total-each X part-ready)))
-        ∙ (λ i. take a R ++ ((rows-each X S part-ready ∙ ap (each (raise u d)) mid) i ++ rows_drop ws bs b i))
+        ∙ ap (λ (r : List Row). take a R ++ r) (rows-cat (each (lift u d) X) Z S (drop m bs) (l_s ∙ sym (total_each X part-ready)))
+        ∙ (λ i. take a R ++ ((rows_each X S part-ready ∙ ap (each (raise u d)) mid) i ++ rows_drop ws bs b i))
 
 -- what stands behind the changed part stays
 changed-append : (f : ℕ → ℕ) (p q : List ℕ) (a b : ℕ) → a ≤ b → b ≤ length p → changed f (p ++ q) a b ≡ changed f p a b ++ q
@@ -94,7 +94,7 @@ pub length-changed : (f : ℕ → ℕ) (s : List ℕ) (a b : ℕ) → a ≤ b �
 length-changed f s a b h₁ h₂ =
     let X : List ℕ = drop a (take b s) in
     length-append (take a s) (each f X ++ drop b s)
-    ∙ omega (arith, length-append (each f X) (drop b s), length-each f X, ap length (thirds s a b h₁), length-append (take a s) (X ++ drop b s), length-append X (drop b s))
+    ∙ omega (arith, length-append (each f X) (drop b s), length_each f X, ap length (thirds s a b h₁), length-append (take a s) (X ++ drop b s), length-append X (drop b s))
 
 -- ---- entries exchanged
 

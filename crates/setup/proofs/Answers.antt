@@ -11,7 +11,7 @@ use Rattle.layout.specs.Store.{lent}
 use Rattle.setup.specs.SetUp.{entries_fit, bytes_fit, refusal_of, fresh_words, IsSetUp}
 use Rattle.setup.proofs.Fits.{entry-room, byte-room}
 use Rattle.setup.proofs.Blank.{blank-lawful, blank-state}
-use Rattle.setup.proofs.Fresh.{left-long, left-blank, left-spare}
+use Rattle.setup.proofs.Fresh.{left-long, left-blank, left_spare}
 
 module _ (m b : ℕ) (ws rs hs : List ℕ) (ts : List ℤ) (ps bs : Bytes) where
   pub says-15 : entries_fit (length ws) (length rs) (length hs) (length ts) (length ps) m ≡ false
@@ -35,4 +35,4 @@ module _ (m b : ℕ) (ws rs hs : List ℕ) (ts : List ℤ) (ps bs : Bytes) where
         let y = byte-room _ _ f in
         let o = left-blank m b ws rs hs ts ps bs x.words x.records x.heads x.times x.paths y.1 in
         rw i
-        (sym (says-0 f), ((left-long m b ws rs hs ts ps bs x.words x.records x.heads x.times x.paths y.1, blank-lawful m b _ o x.limit y.0), blank-state m b _ o, left-spare m b ws rs hs ts ps bs))
+        (sym (says-0 f), ((left-long m b ws rs hs ts ps bs x.words x.records x.heads x.times x.paths y.1, blank-lawful m b _ o x.limit y.0), blank-state m b _ o, left_spare m b ws rs hs ts ps bs))

@@ -37,24 +37,24 @@ unfolding cell_ok path_ok names_ok path_fits names pieces keep vanishes same bod
 root-cell = refl
 
 module _ (m b : ℕ) (st : Store) (o : Blank m b st) where
-  not-held : (n i k : ℕ) → held_from st n i k ≡ false
+  not_held : (n i k : ℕ) → held_from st n i k ≡ false
   unfolding held_from
-  not-held zero i k = refl
-  not-held (suc n) i k = rw (o.closed i, eqb-zero-suc k) (not-held n (suc i) k)
+  not_held zero i k = refl
+  not_held (suc n) i k = rw (o.closed i, eqb-zero-suc k) (not_held n (suc i) k)
 
-  no-files : (n k : ℕ) → files_from st n k ≡ []
+  no_files : (n k : ℕ) → files_from st n k ≡ []
   unfolding files_from
-  no-files zero k = refl
-  no-files (suc n) k = rw (o.free k) (no-files n (suc k))
+  no_files zero k = refl
+  no_files (suc n) k = rw (o.free k) (no_files n (suc k))
 
-  no-opens : (n k : ℕ) → opens_from st n k ≡ []
+  no_opens : (n k : ℕ) → opens_from st n k ≡ []
   unfolding opens_from
-  no-opens zero k = refl
-  no-opens (suc n) k = rw (o.closed k) (no-opens n (suc k))
+  no_opens zero k = refl
+  no_opens (suc n) k = rw (o.closed k) (no_opens n (suc k))
 
   slot-free : (k : ℕ) → slot_ok st k ≡ true
   unfolding uses rows
-  slot-free k = rw (o.free k, o.no_entry, not-held 32 0 k)
+  slot-free k = rw (o.free k, o.no_entry, not_held 32 0 k)
 
   number-closed : (n : ℕ) → number_ok st n ≡ true
   number-closed n = rw (o.closed n)
@@ -70,9 +70,9 @@ module _ (m b : ℕ) (st : Store) (o : Blank m b st) where
   unfolding name_total
   no_names = rw o.no_entry refl
 
-  no-tree : (f : ℕ → Node) → tree_from f [] (rows (take (count st) st.records) st.bytes) ≡ []
+  no_tree : (f : ℕ → Node) → tree_from f [] (rows (take (count st) st.records) st.bytes) ≡ []
   unfolding tree_from rows
-  no-tree f = rw o.no_entry refl
+  no_tree f = rw o.no_entry refl
 
   pub blank-lawful : (1 ≤ m) × (m ≤ 4096) → (256 ≤ b) × (b ≤ 1048576) → Lawful st
   blank-lawful l k =
@@ -90,10 +90,10 @@ module _ (m b : ℕ) (st : Store) (o : Blank m b st) where
         umask = rw o.has_mask (lit< tt);
       }
 
-  no-here : names (take (here_length st) (drop 0 st.paths)) ≡ []
+  no_here : names (take (here_length st) (drop 0 st.paths)) ≡ []
   unfolding names pieces keep vanishes same
-  no-here = rw o.at_root refl
+  no_here = rw o.at_root refl
 
   pub blank-state : state st ≡ fresh_state m b
   blank-state =
-      rw (no-tree (node_at st), no-files (length st.heads) 0, no-opens 32 0, no-here, o.has_mask, o.has_most, o.has_room) refl
+      rw (no_tree (node_at st), no_files (length st.heads) 0, no_opens 32 0, no_here, o.has_mask, o.has_most, o.has_room) refl

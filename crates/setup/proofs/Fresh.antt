@@ -43,8 +43,8 @@ module _ (m b : ℕ) (ws rs hs : List ℕ) (ts : List ℤ) (ps bs : Bytes) where
   abbrev left : Store
   left = lent (fresh_words m b ws) rs hs ts ps bs
 
-  pub left-spare : spare m b left ≡ spare m b (lent ws rs hs ts ps bs)
-  left-spare = λ i. lent (fresh-rest m b ws i) (drop m rs) (drop (m + 32) hs) (drop (4 * (m + 32)) ts) (drop 33792 ps) (drop b bs)
+  pub left_spare : spare m b left ≡ spare m b (lent ws rs hs ts ps bs)
+  left_spare = λ i. lent (fresh-rest m b ws i) (drop m rs) (drop (m + 32) hs) (drop (4 * (m + 32)) ts) (drop 33792 ps) (drop b bs)
 
   module _ (lw : 102 ≤ length ws) (lr : m ≤ length rs) (lh : m + 32 ≤ length hs) (lt : 4 * (m + 32) ≤ length ts) (lp : 33792 ≤ length ps) (lb : b ≤ length bs) where
     has-most : get_or (fresh_words m b ws) 0 0 ≡ m

@@ -13,7 +13,7 @@ use Rattle.layout.specs.Fields.{len_of}
 use Rattle.layout.specs.Slots.{total, start, contents}
 use Rattle.slots.specs.Put.{with_len, fitted, Put, Freed}
 use Rattle.slots.proofs.Totals.{total-set}
-use Rattle.slots.proofs.Contents.{length-contents, total-same, contents_same}
+use Rattle.slots.proofs.Contents.{length-contents, total_same, contents_same}
 use Rattle.slots.proofs.Parts.{join, Fit, split-fit, join-split, fit-total, fit-set, fit-take, fit_at, join_at, join-set, read}
 
 module _ (hs bs : List ℕ) (ht : total hs ≤ length bs) where
@@ -238,7 +238,7 @@ clear-put hs bs hs₁ bs₁ k ht hk p =
     let none : fitted 0 c ≡ [] = ap (λ (m : ℕ). replicate m 0) z in
     let l : len_of 0 ≡ len_of (get_or hs₁ k 0) = sym (put-len hs bs hs₁ bs₁ k 0 (fitted 0 c) p hk (omega arith)) in
     let ro = p.room in
-    let t : total (set hs₁ k 0) ≡ total hs₁ = total-same 0 hs₁ k l in
+    let t : total (set hs₁ k 0) ≡ total hs₁ = total_same 0 hs₁ k l in
     record {
       heads = ap (λ (l : List ℕ). set l k 0) p.heads ∙ set-set hs k (with_len (get_or hs k 0) 0) 0;
       texts = contents_same hs₁ bs₁ k 0 l ∙ p.texts ∙ ap (set (contents hs bs) k) none;

@@ -21,20 +21,20 @@ pub contents-behind : (hs bs bs' : List ℕ) → length bs ≡ length bs' → dr
 contents-behind hs bs bs' l e = ap (split hs) e ∙ ap (λ (n : ℕ). split hs (drop (n - total hs) bs')) l
 
 module _ (h : ℕ) where
-  split-same : (hs : List ℕ) (k : ℕ) (s : List ℕ) → len_of h ≡ len_of (get_or hs k 0) → split (set hs k h) s ≡ split hs s
+  split_same : (hs : List ℕ) (k : ℕ) (s : List ℕ) → len_of h ≡ len_of (get_or hs k 0) → split (set hs k h) s ≡ split hs s
   unfolding split
-  split-same [] k s e = refl
-  split-same (x ∷ hs) zero s e = ap (λ (n : ℕ). take n s ∷ split hs (drop n s)) e
-  split-same (x ∷ hs) (suc k) s e = ap (λ (l : List (List ℕ)). take (len_of x) s ∷ l) (split-same hs k (drop (len_of x) s) e)
+  split_same [] k s e = refl
+  split_same (x ∷ hs) zero s e = ap (λ (n : ℕ). take n s ∷ split hs (drop n s)) e
+  split_same (x ∷ hs) (suc k) s e = ap (λ (l : List (List ℕ)). take (len_of x) s ∷ l) (split_same hs k (drop (len_of x) s) e)
 
   -- and not how many they are
-  pub total-same : (hs : List ℕ) (k : ℕ) → len_of h ≡ len_of (get_or hs k 0) → total (set hs k h) ≡ total hs
+  pub total_same : (hs : List ℕ) (k : ℕ) → len_of h ≡ len_of (get_or hs k 0) → total (set hs k h) ≡ total hs
   unfolding total
-  total-same [] k e = refl
-  total-same (x ∷ hs) zero e = ap (λ (n : ℕ). n + total hs) e
-  total-same (x ∷ hs) (suc k) e = ap (λ (n : ℕ). len_of x + n) (total-same hs k e)
+  total_same [] k e = refl
+  total_same (x ∷ hs) zero e = ap (λ (n : ℕ). n + total hs) e
+  total_same (x ∷ hs) (suc k) e = ap (λ (n : ℕ). len_of x + n) (total_same hs k e)
 
 -- a word of the same length changes the bytes of no slot
 pub contents_same : (hs bs : List ℕ) (k h : ℕ) → len_of h ≡ len_of (get_or hs k 0) → contents (set hs k h) bs ≡ contents hs bs
 contents_same hs bs k h e =
-    split-same h hs k (drop (start (set hs k h) bs) bs) e ∙ ap (λ (n : ℕ). split hs (drop (length bs - n) bs)) (total-same h hs k e)
+    split_same h hs k (drop (start (set hs k h) bs) bs) e ∙ ap (λ (n : ℕ). split hs (drop (length bs - n) bs)) (total_same h hs k e)

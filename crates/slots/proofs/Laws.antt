@@ -18,14 +18,14 @@ use Rattle.slots.proofs.Change.{put-len}
 -- ---- the word with another length
 
 module _ (h n : ℕ) (hn : n < 16777216) where
-  pub len-with : len_of (with_len h n) ≡ n
-  len-with = omega arith
+  pub len_with : len_of (with_len h n) ≡ n
+  len_with = omega arith
 
-  pub kind-with : kind_of (with_len h n) ≡ kind_of h
-  kind-with = omega arith
+  pub kind_with : kind_of (with_len h n) ≡ kind_of h
+  kind_with = omega arith
 
-  pub mode-with : mode_of (with_len h n) ≡ mode_of h
-  mode-with = omega arith
+  pub mode_with : mode_of (with_len h n) ≡ mode_of h
+  mode_with = omega arith
 
 -- ---- bytes put in a slot
 
@@ -47,8 +47,8 @@ module _ (hs bs hs' bs' : List ℕ) (k n : ℕ) (x : List ℕ) (p : Put hs bs hs
   put-here hk = ap (λ (l : List (List ℕ)). get_or l k []) p.texts ∙ get_or-set_same (contents hs bs) k x [] (rw (length-contents hs bs) hk)
 
   -- the word of another slot
-  pub put-head-other : (j : ℕ) → (j ≡ k → ⊥) → get_or hs' j 0 ≡ get_or hs j 0
-  put-head-other j d = ap (λ (l : List ℕ). get_or l j 0) p.heads ∙ get_or-set_other hs k j (with_len (get_or hs k 0) n) 0 d
+  pub put-head_other : (j : ℕ) → (j ≡ k → ⊥) → get_or hs' j 0 ≡ get_or hs j 0
+  put-head_other j d = ap (λ (l : List ℕ). get_or l j 0) p.heads ∙ get_or-set_other hs k j (with_len (get_or hs k 0) n) 0 d
 
   -- its bytes
   pub put_other : (j : ℕ) → (j ≡ k → ⊥) → get_or (contents hs' bs') j [] ≡ get_or (contents hs bs) j []
@@ -71,10 +71,10 @@ module _ {A : Type 0} (none : A) where
   length-swept (m ∷ ms) (x ∷ l) = ap suc (length-swept ms l)
 
   -- a slot whose mark is 0 is free, and another as it was
-  pub getD-swept : (ms : List ℕ) (l : List A) (k : ℕ) → length ms ≡ length l → get_or (swept_by none ms l) k none ≡ cond (eqb (get_or ms k 0) 0) none (get_or l k none)
+  pub get_d-swept : (ms : List ℕ) (l : List A) (k : ℕ) → length ms ≡ length l → get_or (swept_by none ms l) k none ≡ cond (eqb (get_or ms k 0) 0) none (get_or l k none)
   unfolding swept_by
-  getD-swept [] [] k e = refl
-  getD-swept [] (x ∷ l) k e = absurd (omega arith)
-  getD-swept (m ∷ ms) [] k e = absurd (omega arith)
-  getD-swept (m ∷ ms) (x ∷ l) zero e = refl
-  getD-swept (m ∷ ms) (x ∷ l) (suc k) e = getD-swept ms l k (omega arith)
+  get_d-swept [] [] k e = refl
+  get_d-swept [] (x ∷ l) k e = absurd (omega arith)
+  get_d-swept (m ∷ ms) [] k e = absurd (omega arith)
+  get_d-swept (m ∷ ms) (x ∷ l) zero e = refl
+  get_d-swept (m ∷ ms) (x ∷ l) (suc k) e = get_d-swept ms l k (omega arith)

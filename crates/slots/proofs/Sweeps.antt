@@ -104,9 +104,9 @@ module _ (hs₀ bs₀ ms hs bs hs' bs' : List ℕ) (j src dst r : ℕ) (e : leng
       S.bytes ∙ ap (λ (l : List ℕ). take (start hs₀ bs₀) bs₀ ++ (l ++ (S.junk ++ Q))) (join-take (contents hs₀ bs₀) j within)
       ∙ ap (λ (l : List ℕ). take (start hs₀ bs₀) bs₀ ++ l) (append_assoc X x (S.junk ++ Q))
 
-  rest-is : (m : ℕ) → get_or ms j 0 ≡ m → join (swept_c (drop j ms) (drop j (contents hs₀ bs₀))) ≡ cond (eqb m 0) [] (get_or (contents hs₀ bs₀) j []) ++ join (swept_c (drop (suc j) ms) (drop (suc j) (contents hs₀ bs₀)))
+  rest_is : (m : ℕ) → get_or ms j 0 ≡ m → join (swept_c (drop j ms) (drop j (contents hs₀ bs₀))) ≡ cond (eqb m 0) [] (get_or (contents hs₀ bs₀) j []) ++ join (swept_c (drop (suc j) ms) (drop (suc j) (contents hs₀ bs₀)))
   unfolding swept_by join
-  rest-is m em =
+  rest_is m em =
       let dm : drop j ms ≡ m ∷ drop (suc j) ms = drop-cons ms j 0 (omega arith) ∙ ap (λ (n : ℕ). n ∷ drop (suc j) ms) em in
       let dc : drop j (contents hs₀ bs₀) ≡ get_or (contents hs₀ bs₀) j [] ∷ drop (suc j) (contents hs₀ bs₀) = drop-cons (contents hs₀ bs₀) j [] within in
       λ i. join (swept_c (dm i) (dc i))
@@ -125,7 +125,7 @@ module _ (hs₀ bs₀ ms hs bs hs' bs' : List ℕ) (j src dst r : ℕ) (e : leng
       record {
         junk = x ++ S.junk;
         heads = heads-turn zero em T.heads;
-        bytes = T.bytes ∙ shape ∙ ap (λ (l : List ℕ). P ++ (X ++ l)) (sym (append_assoc x S.junk Q) ∙ ap (λ (l : List ℕ). (x ++ S.junk) ++ l) (sym (rest-is zero em)));
+        bytes = T.bytes ∙ shape ∙ ap (λ (l : List ℕ). P ++ (X ++ l)) (sym (append_assoc x S.junk Q) ∙ ap (λ (l : List ℕ). (x ++ S.junk) ++ l) (sym (rest_is zero em)));
         from = omega arith;
         to = omega (arith, length-append x S.junk, long);
       }
@@ -156,7 +156,7 @@ module _ (hs₀ bs₀ ms hs bs hs' bs' : List ℕ) (j src dst r : ℕ) (e : leng
         bytes = mv ∙ ap (λ (w : List ℕ). moved w (src - l) (src - l + (dst - src)) l) (shape ∙ sym (append_assoc P X (x ++ (S.junk ++ Q))))
             ∙ up (P ++ X) x S.junk Q (src - l) (dst - src) l l_pX lj lx
             ∙ append_assoc P X (J ++ (x ++ Q))
-            ∙ ap (λ (w : List ℕ). P ++ (X ++ (J ++ w))) (sym (rest-is (suc m) em ∙ ap (λ (w : List ℕ). w ++ Q) q));
+            ∙ ap (λ (w : List ℕ). P ++ (X ++ (J ++ w))) (sym (rest_is (suc m) em ∙ ap (λ (w : List ℕ). w ++ Q) q));
         from = omega arith;
         to = omega arith;
       }
@@ -207,9 +207,9 @@ module _ (hs₀ bs₀ ms hs bs : List ℕ) (src dst : ℕ) (e : length ms ≡ le
       let lb : length bs ≡ length P + (length X + (length S.junk + length Q)) = ap length S.bytes ∙ simp length-append in
       record { low = rw one (omega arith); mid = omega arith; high = omega arith }
 
-  pub sweep-next : (hs' bs' : List ℕ) (i r : ℕ) → 0 < i → i ≤ length hs₀ → Sweeping hs₀ bs₀ ms hs bs i src dst → Step hs bs hs' bs' (i - 1) (get_or ms (i - 1) 0) src dst r
+  pub sweep_next : (hs' bs' : List ℕ) (i r : ℕ) → 0 < i → i ≤ length hs₀ → Sweeping hs₀ bs₀ ms hs bs i src dst → Step hs bs hs' bs' (i - 1) (get_or ms (i - 1) 0) src dst r
       → Sweeping hs₀ bs₀ ms hs' bs' (i - 1) (src - len_of (get_or hs (i - 1) 0)) r
-  sweep-next hs' bs' zero r p h S T = absurd (omega arith)
-  sweep-next hs' bs' (suc j) r p h S T =
+  sweep_next hs' bs' zero r p h S T = absurd (omega arith)
+  sweep_next hs' bs' (suc j) r p h S T =
       let one : suc j - 1 ≡ j = sub-one (suc j) in
       rw one (turn hs₀ bs₀ ms hs bs hs' bs' j src dst r e ht (omega arith) S (get_or ms j 0) refl (rw one at T))

@@ -45,8 +45,8 @@ module _ (u : Store) (s : State) (h : Shows u s) (p : Path) where
   }
   step-told l End x = x
 
-  pub first-told : (r : Step) → Rest (trim u) p (listing_of (trim u) p) r → StepIs u s p (listed s p) r
-  first-told r x = step-told (listed s p) r (subst (λ (l : List (Name × Stat)). Rest (trim u) p l r) listed-told x)
+  pub first_told : (r : Step) → Rest (trim u) p (listing_of (trim u) p) r → StepIs u s p (listed s p) r
+  first_told r x = step-told (listed s p) r (subst (λ (l : List (Name × Stat)). Rest (trim u) p l r) listed-told x)
 
 -- what fits in the words of the state fits in those of the store
 pub roomy : (words records bytes : Slice ℕ) (spot : Spot) (out : Bytes) → SomeFitting (with_words words ∘ with_records records ∘ with_bytes bytes) spot out

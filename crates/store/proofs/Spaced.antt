@@ -79,8 +79,8 @@ module _ (u : Store) (s : State) (h : Shows u s) where
   even : Even (world_of (state (trim u))) (world_of s)
   even = even-start (state (trim u)) s (lawful-shape (trim u) h.roomy.lawful) h.shaped h.alike
 
-  same-use : (entries_used (state (trim u)) ≡ entries_used s) × (bytes_used (state (trim u)) ≡ bytes_used s)
-  same-use = alike-used (state (trim u)) s (lawful-shape (trim u) h.roomy.lawful) h.shaped h.alike
+  same_use : (entries_used (state (trim u)) ≡ entries_used s) × (bytes_used (state (trim u)) ≡ bytes_used s)
+  same_use = alike-used (state (trim u)) s (lawful-shape (trim u) h.roomy.lawful) h.shaped h.alike
 
   pub links-told : links_in (state (trim u)).tree ≡ links_in s.tree
   links-told =
@@ -91,10 +91,10 @@ module _ (u : Store) (s : State) (h : Shows u s) where
       )
 
   pub entries-told : count u ≡ entries_used s
-  entries-told = sym (entries-used (trim u) h.roomy.lawful) ∙ same-use.0
+  entries-told = sym (entries-used (trim u) h.roomy.lawful) ∙ same_use.0
 
   pub used-told : bytes_used (state (trim u)) ≡ bytes_used s
-  used-told = same-use.1
+  used-told = same_use.1
 
   -- by what the store tells of it: z bytes go with its node
   pub weight-told : (p : Path) (r : Weight) (z : ℕ) → answers.WeightIs (trim u) p r → cond r.held 0 r.size ≡ z → WeightIs s p (record { name = r.name; freed = z })

@@ -21,16 +21,16 @@ use Rattle.edit_entry.specs.Removal.{Block}
 
 module _ (st : Store) (l : Lawful st) where
   -- the path of the first record is the root's
-  pub first-path : 0 < count st → path_at st 0 ≡ []
+  pub first_path : 0 < count st → path_at st 0 ≡ []
   unfolding path_after
-  first-path h = path_next st l 0 h ∙ root-path st l h
+  first_path h = path_next st l 0 h ∙ root-path st l h
 
   -- an entry whose path has a name is not the root
   pub below_root : (spot : Spot) (p : Path) → At st spot p → (p ≡ [] → ⊥) → 0 < spot.at
   below_root spot p a n = go spot.at a.within a.path
     where
       go : (k : ℕ) → k < count st → path_at st k ≡ p → 0 < k
-      go zero h e = absurd (n (sym e ∙ first-path h))
+      go zero h e = absurd (n (sym e ∙ first_path h))
       go (suc k) h e = omega arith
 
   -- the records up to its end are the entry and all below it

@@ -39,8 +39,8 @@ pub whole_heads : (st : Store) → (trim st).heads ++ drop (extent st) st.heads 
 whole_heads st = take-append-drop (extent st) st.heads
 
 module _ (es : List Edit) (st u : Store) (s : State) (h : Shows st s) (r : Roomy u) (k : Alike (state (trim u)) (edited_by es (state (trim st)))) where
-  pub shows-by : Shows u (edited_by es s)
-  shows-by =
+  pub shows_by : Shows u (edited_by es s)
+  shows_by =
       let a = lawful-shape (trim u) r.lawful in
       let b = lawful-shape (trim st) h.roomy.lawful in
       record {
@@ -52,9 +52,9 @@ module _ (es : List Edit) (st u : Store) (s : State) (h : Shows st s) (r : Roomy
 -- of the words of the slots so far
 module _ (es : List Edit) (st v : Store) (s : State) (h : Shows st s) (k : Spells v (edited_by es (state (trim st))))
     (n : length v.heads ≡ length (trim st).heads) (m : length v.records ≡ length st.records) where
-  pub shows-whole : Shows (whole st v) (edited_by es s)
-  shows-whole =
-      shows-by es st (whole st v) s h
+  pub shows_whole : Shows (whole st v) (edited_by es s)
+  shows_whole =
+      shows_by es st (whole st v) s h
       (part-back st.words st.records st.heads v.words v.records v.heads st.times v.times st.paths st.bytes v.paths v.bytes (extent st) h.roomy refl n m k.lawful)
       (subst (λ (x : Store). Alike (state x) (edited_by es (state (trim st)))) (sym (trim_whole st v k.lawful)) k.alike)
 
@@ -64,7 +64,7 @@ module _ (es : List Edit) (st v : Store) (s : State) (h : Shows st s) (k : Spell
   pub shows_same : Shows (lent v.words v.records st.heads v.times v.paths v.bytes) (edited_by es s)
   shows_same =
       subst (λ (hs : List ℕ). Shows (lent v.words v.records hs v.times v.paths v.bytes) (edited_by es s))
-      (ap (λ (xs : List ℕ). xs ++ drop (extent st) st.heads) e ∙ whole_heads st) (shows-whole es st v s h k (ap length e) m)
+      (ap (λ (xs : List ℕ). xs ++ drop (extent st) st.heads) e ∙ whole_heads st) (shows_whole es st v s h k (ap length e) m)
 
 -- ---- spots
 

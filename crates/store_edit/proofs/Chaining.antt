@@ -7,7 +7,7 @@ use native.Mathlib.Omega.{arith}
 use Rattle.model.specs.Prog.{World, Edit}
 use Rattle.model.specs.Calls.States.{State, world_of, state_of}
 use Rattle.model.specs.Shaped.{Shaped}
-use Rattle.model.proofs.Alike.Chain.{applied, edited_by, tidy-edits, even-edits, left_shaped, even-left, edits-left}
+use Rattle.model.proofs.Alike.Chain.{applied, edited_by, tidy-edits, even-edits, left_shaped, even_left, edits_left}
 use Rattle.model.proofs.Alike.Runs.{even-used}
 use Rattle.model.proofs.Alike.States.{alike-trans}
 use Rattle.model.proofs.Demand.Keeping.{Empty}
@@ -21,7 +21,7 @@ module _ (s : State) (v : World) (d : Tidy v) (e : Empty v) (o : Shaped (state_o
   -- what is shown after the edits of the state so far is what is left of the world after them
   pub shows-chain : (u : Store) → Shows u (edited_by es (state_of s v)) → Shows u (state_of s (applied es v))
   shows-chain u h =
-      let k = edits-left s v d e o es in
+      let k = edits_left s v d e o es in
       record {
         roomy = h.roomy;
         shaped = left_shaped (edited_by es (state_of s v)) s (applied es v) h.shaped (tidy-edits es v d) k;
@@ -31,5 +31,5 @@ module _ (s : State) (v : World) (d : Tidy v) (e : Empty v) (o : Shaped (state_o
   -- and the one fits where the other does
   pub fits-chain : Fits (state_of s (applied es v)) → Fits (edited_by es (state_of s v))
   fits-chain f =
-      let u = even-used (state_of s v) s refl refl (applied es (world_of (state_of s v))) (applied es v) (even-edits es (world_of (state_of s v)) v (even-left s v d e o)) in
+      let u = even-used (state_of s v) s refl refl (applied es (world_of (state_of s v))) (applied es v) (even-edits es (world_of (state_of s v)) v (even_left s v d e o)) in
       (omega (arith, f.0, u.0), omega (arith, f.1, u.1))

@@ -18,7 +18,7 @@ use Rattle.layout.specs.Fields.{slot_of}
 use Rattle.layout.specs.Store.{Store, holder, kind_at, state}
 use Rattle.layout.specs.Lawful.{Lawful}
 use Rattle.layout.specs.Alike.{Spells, HasSlot}
-use Rattle.layout.proofs.Slotted.{file_at}
+use Rattle.layout.proofs.Slotted.{file_at_lem}
 use Rattle.layout.proofs.Entered.{Stood, stood}
 use Rattle.layout.proofs.Tables.{open_there}
 use Rattle.ask_find.specs.declared.Spot.{Spot}
@@ -64,8 +64,8 @@ module _ (st : Store) (s : State) (h : Shows st s) (spot : Spot) (p : Path) (a :
   pub spot-times : 4 * slot + 3 < length st.times
   spot-times = omega (arith, spot-slot, l.exact.heads, l.exact.times, l.slotted)
 
-  pub spot-has : (k : ℕ) → k ≡ slot → HasSlot (trim st) p k
-  spot-has k e = subst (HasSlot (trim st) p) (sym e) (subst (λ (q : Path). HasSlot (trim st) q slot) a.path (path-slot (trim st) l spot.at a.within))
+  pub spot_has : (k : ℕ) → k ≡ slot → HasSlot (trim st) p k
+  spot_has k e = subst (HasSlot (trim st) p) (sym e) (subst (λ (q : Path). HasSlot (trim st) q slot) a.path (path-slot (trim st) l spot.at a.within))
 
   pub spot-kind : (k : Kind) → says (kind? p) s ≡ some k → kind_by (kind_at (trim st) slot) ≡ k
   spot-kind k e =
@@ -78,7 +78,7 @@ module _ (st : Store) (s : State) (h : Shows st s) (spot : Spot) (p : Path) (a :
   pub spot-look : says (kind? p) s ≡ some aFile → look (state (trim st)).tree p ≡ some (file slot)
   spot-look e =
       ap (look (state (trim st)).tree) (sym a.path)
-      ∙ (path-look (trim st) l spot.at a.within ∙ ap some (file_at (trim st) slot (spot-file e)))
+      ∙ (path-look (trim st) l spot.at a.within ∙ ap some (file_at_lem (trim st) slot (spot-file e)))
 
 -- ---- a number
 

@@ -21,9 +21,9 @@ use Rattle.layout.specs.Fields.{len_of, slot_of}
 use Rattle.layout.specs.Store.{Store, holder, bytes_at, state}
 use Rattle.layout.specs.Lawful.{Lawful}
 use Rattle.layout.proofs.Edited.Shapes.{lawful-shape}
-use Rattle.layout.proofs.Entered.{has-file}
+use Rattle.layout.proofs.Entered.{has_file}
 use Rattle.layout.proofs.Slotted.{bytes-length}
-use Rattle.layout.proofs.Tables.{fileAt, open_there}
+use Rattle.layout.proofs.Tables.{file_at, open_there}
 use Rattle.layout.proofs.Used.{bytes-used}
 use Rattle.ask_find.specs.declared.Spot.{Spot}
 use Rattle.ask_entry.proofs.Opened.{word_low, held_bytes}
@@ -47,8 +47,8 @@ module _ (st : Store) (s : State) (h : Shows st s) where
   abbrev was : State
   was = state (trim st)
 
-  pub was-spaced : Spaced was
-  was-spaced = let o = lawful-shape (trim st) l in spaced was o.paths o.nodes o.one_name o.files o.used o.numbers
+  pub was_spaced : Spaced was
+  was_spaced = let o = lawful-shape (trim st) l in spaced was o.paths o.nodes o.one_name o.files o.used o.numbers
 
   -- what fits of the state fits of the one that is read back
   pub fits-back : (es : List Edit) → Fits (edited_by es s) → Fits (edited_by es was)
@@ -68,7 +68,7 @@ module _ (st : Store) (s : State) (h : Shows st s) where
       let low = spot-slot st s h spot p a in
       let kind = spot-file st s h spot p a f in
       let y = fits-back (change p (write b t) ∷ []) z in
-      let u = after_write was was-spaced p b t i (fileAt (trim st) i) (spot-look st s h spot p a f) (has-file (trim st) l i low kind) in
+      let u = after_write was was_spaced p b t i (file_at (trim st) i) (spot-look st s h spot p a f) (has_file (trim st) l i low kind) in
       subst (λ (n : ℕ). HasRoom (trim st) n (length b)) (sym e)
       (record { there = low; is_file = kind; room = omega (arith, y.1, u.bytes, bytes-used (trim st) l, slot-length i low) })
 
@@ -80,7 +80,7 @@ module _ (st : Store) (s : State) (h : Shows st s) where
       let d : i ≡ k = omega (arith, e) in
       let low : i < length (trim st).heads = omega (arith, w.1.one, w.1.low) in
       let y = fits-back (change_held n (resize b) ∷ []) z in
-      let u = after-resize-held was was-spaced n b _ (fileAt (trim st) i) (open_there (trim st) 32 0 n (omega arith) (omega (arith, w.0)) (λ q. omega (arith, q, w.1.one))) (has-file (trim st) l i low w.1.kind) in
+      let u = after-resize-held was was_spaced n b _ (file_at (trim st) i) (open_there (trim st) 32 0 n (omega arith) (omega (arith, w.0)) (λ q. omega (arith, q, w.1.one))) (has_file (trim st) l i low w.1.kind) in
       subst (λ (m : ℕ). HasRoom (trim st) m (length b)) d
       (record { there = low; is_file = w.1.kind; room = omega (arith, y.1, u.bytes, bytes-used (trim st) l, slot-length i low) })
 

@@ -45,7 +45,7 @@ use Rattle.store.proofs.Asked.{told}
 use Rattle.store_edit.specs.Turns.{Fits}
 use Rattle.store_edit.specs.Entries.{MayMake, Makes}
 use Rattle.store_edit.proofs.Carrying.{whole, trim_whole, shows-resized}
-use Rattle.store_edit.proofs.Fitting.{was-spaced, fits-back}
+use Rattle.store_edit.proofs.Fitting.{was_spaced, fits-back}
 use Rattle.store_edit.proofs.Resizing.{count-resized, rows-resized}
 
 -- ---- what is not there
@@ -92,8 +92,8 @@ module _ {st u : Store} {s : State} (h : Shows st s) (r : Resized st u) (recs : 
   same_rows : rows_of (trim u) ≡ rows_of (trim st)
   same_rows = rows-resized st u r recs bs
 
-  same-kinds : (k : ℕ) → Has (rows_of (trim st)) k → kind_at (trim u) k ≡ kind_at (trim st) k
-  same-kinds k x =
+  same_kinds : (k : ℕ) → Has (rows_of (trim st)) k → kind_at (trim u) k ≡ kind_at (trim st) k
+  same_kinds k x =
       let a = slot-below (trim st) h.roomy.lawful k x in
       let b = slot-below (trim u) r.roomy.lawful k (subst (λ (rs : List Row). Has rs k) (sym same_rows) x) in
       let c : k < extent st = omega (arith, a, h.roomy.lawful.exact.heads) in
@@ -104,7 +104,7 @@ module _ {st u : Store} {s : State} (h : Shows st s) (r : Resized st u) (recs : 
       → Between (kind_at (trim u)) (take k (rows_of (trim u))) (drop k (rows_of (trim u))) d x
   gap-resized k d x g =
       subst (λ (rs : List Row). Between (kind_at (trim u)) (take k rs) (drop k rs) d x) (sym same_rows)
-      (gap_by (kind_at (trim u)) (kind_at (trim st)) (take k (rows_of (trim st))) (drop k (rows_of (trim st))) d x (λ i z. same-kinds i (has_take k (rows_of (trim st)) i z)) g)
+      (gap_by (kind_at (trim u)) (kind_at (trim st)) (take k (rows_of (trim st))) (drop k (rows_of (trim st))) d x (λ i z. same_kinds i (has_take k (rows_of (trim st)) i z)) g)
 
 -- ---- a slot reserved
 
@@ -125,9 +125,9 @@ module _ {st u : Store} {s : State} (h : Shows st s) (r : Reserved st u) (recs :
     abbrev p : Path
     p = d ++ (x ∷ [])
 
-    name-is : name_length p ≡ length x
+    name_is : name_length p ≡ length x
     unfolding name_length
-    name-is = last_name_lem d x []
+    name_is = last_name_lem d x []
 
     allowed : Insertable (trim u) x kind c
     allowed = go kind o f
@@ -142,11 +142,11 @@ module _ {st u : Store} {s : State} (h : Shows st s) (r : Reserved st u) (recs :
         go : (k : ℕ) → Holds k c → Fits (edited (insertion k p m t c) s) → Insertable (trim u) x k c
         go zero q z = absurd q
         go (suc zero) q z =
-            fit (name_length p) (edited (insertion 1 p m t c) was) (after-make was (was-spaced u s w) p (new_meta m t) e) (omega (arith, name-is, ap length q)) (fits-back u s w (insertion 1 p m t c ∷ []) z) refl refl 1 q
+            fit (name_length p) (edited (insertion 1 p m t c) was) (after-make was (was_spaced u s w) p (new_meta m t) e) (omega (arith, name_is, ap length q)) (fits-back u s w (insertion 1 p m t c ∷ []) z) refl refl 1 q
         go (suc (suc zero)) q z =
-            fit (name_length p + length c) (edited (insertion 2 p m t c) was) (after-create was (was-spaced u s w) p (record { meta = new_meta m t; bytes = c }) e) (omega (arith, name-is)) (fits-back u s w (insertion 2 p m t c ∷ []) z) refl refl 2 q
+            fit (name_length p + length c) (edited (insertion 2 p m t c) was) (after-create was (was_spaced u s w) p (record { meta = new_meta m t; bytes = c }) e) (omega (arith, name_is)) (fits-back u s w (insertion 2 p m t c ∷ []) z) refl refl 2 q
         go (suc (suc (suc zero))) q z =
-            fit (name_length p + length c) (edited (insertion 3 p m t c) was) (after-symlink was (was-spaced u s w) p (new_meta m t) c e) (omega (arith, name-is)) (fits-back u s w (insertion 3 p m t c ∷ []) z) refl refl 3 q
+            fit (name_length p + length c) (edited (insertion 3 p m t c) was) (after-symlink was (was_spaced u s w) p (new_meta m t) c e) (omega (arith, name_is)) (fits-back u s w (insertion 3 p m t c ∷ []) z) refl refl 3 q
         go (suc (suc (suc (suc k)))) q z = absurd q
 
   -- ---- what an insertion asks

@@ -38,7 +38,7 @@ use Rattle.store.specs.Shows.{Shows, Stands}
 use Rattle.store_edit.specs.Moves.{MayNestAt, NestLeft}
 use Rattle.store_edit.proofs.Blocks.{below_root, block_of}
 use Rattle.store_edit.proofs.Carrying.{whole, trim_whole}
-use Rattle.store_edit.proofs.Fitting.{fits-back, was-spaced}
+use Rattle.store_edit.proofs.Fitting.{fits-back, was_spaced}
 
 -- ---- what it asks
 
@@ -53,17 +53,17 @@ module _ (st : Store) (s : State) (h : Shows st s) (spot : Spot) (p : Path) (a :
   was = state (trim st)
 
   -- the name behind its own begins there
-  next-offset : name_total (take (suc i) st.records) ≡ spot.off + nlen_of (get_or st.records i 0)
-  next-offset = omega (arith, a.offset, total-step st.records 0 i (omega arith) (omega (arith, a.within, l.counted, l.exact.records)))
+  next_offset : name_total (take (suc i) st.records) ≡ spot.off + nlen_of (get_or st.records i 0)
+  next_offset = omega (arith, a.offset, total-step st.records 0 i (omega arith) (omega (arith, a.within, l.counted, l.exact.records)))
 
   -- which is within the bytes
   pub next_low : spot.off + nlen_of (get_or st.records i 0) ≤ 1048576
   next_low =
-      omega (arith, next-offset, total-live (trim st) l (suc i) (omega (arith, a.within)), total-take (live (trim st)) (suc i), l.space, l.byte_limit.1)
+      omega (arith, next_offset, total-live (trim st) l (suc i) (omega (arith, a.within)), total-take (live (trim st)) (suc i), l.space, l.byte_limit.1)
 
   module _ (x : Name) (m : ℕ) (t : Time) (n : MayNestAt x m t s p) where
     used : Uses was (nested p x (fresh m t) was) 1 0 (length x) 0
-    used = after-nest was (was-spaced st s h) p x (fresh m t) _ (ap (look was.tree) (sym a.path) ∙ path-look (trim st) l i a.within)
+    used = after-nest was (was_spaced st s h) p x (fresh m t) _ (ap (look was.tree) (sym a.path) ∙ path-look (trim st) l i a.within)
 
     -- one entry more, and its name
     pub nest-more : count st < most st
@@ -153,8 +153,8 @@ module _ (st v : Store) (l : Lawful st) (i : ℕ) (h : i < count st) (x : Name) 
       ∙ (after_both [] front (dir ∷ (entry ∷ []))
       ∙ (ap (λ (q : Path). path_of q entry) dir-path ∙ (ap (λ (k : ℕ). take k (path_at st i) ++ (x ∷ [])) deep ∙ ap (λ (q : Path). q ++ (x ∷ [])) (take-length (path_at st i)))))
 
-  pub nested-at : (r : Spot) → r.at ≡ suc i → r.off ≡ name_total (take (suc i) st.records) → path_at st i ≡ p → At v r (p ++ (x ∷ []))
-  nested-at r e f g =
+  pub nested_at : (r : Spot) → r.at ≡ suc i → r.off ≡ name_total (take (suc i) st.records) → path_at st i ≡ p → At v r (p ++ (x ∷ []))
+  nested_at r e f g =
       record {
         within = omega (arith, e, new-low);
         offset = f ∙ (sym new-offset ∙ ap (λ (k : ℕ). name_total (take k v.records)) (sym e));
@@ -166,7 +166,7 @@ pub stands-nested : (st v : Store) (s : State) (h : Shows st s) (spot : Spot) (p
     → (r : Spot) → r.at ≡ suc spot.at → r.off ≡ spot.off + nlen_of (get_or st.records spot.at 0) → Stands (whole st v) r (p ++ (x ∷ []))
 stands-nested st v s h spot p a x m t n r e f =
     subst (λ (u : Store). At u r (p ++ (x ∷ []))) (sym (trim_whole st v n.spells.lawful))
-    (nested-at (trim st) v h.roomy.lawful spot.at a.within x p m t n r e (f ∙ sym (next-offset st s h spot p a)) a.path)
+    (nested_at (trim st) v h.roomy.lawful spot.at a.within x p m t n r e (f ∙ sym (next_offset st s h spot p a)) a.path)
 
 -- ---- a time that was passed on is the time that was given
 

@@ -18,7 +18,7 @@ use Rattle.model.proofs.Demand.Keeping.{Empty}
 use Rattle.model.proofs.Demand.Tidy.{Tidy, tidy-edit}
 use Rattle.model.proofs.Entries.{clash, look_none, look-here, behind_is, path-yes}
 use Rattle.model.proofs.Space.Edits.{Leaf}
-use Rattle.model.proofs.Space.Steps.{leaf-other}
+use Rattle.model.proofs.Space.Steps.{leaf_other}
 use Rattle.layout.specs.Fields.{depth_of}
 use Rattle.layout.specs.Store.{Store, node_at, state}
 use Rattle.layout.proofs.Obeying.{lawful-parents}
@@ -73,24 +73,24 @@ module _ {st : Store} {s : State} (h : Shows st s) (spot : Spot) (p : Path) (a :
   below : Leaf p s.tree
   unfolding answer
   below x r =
-      let e = leaf-other (state (trim st)).tree (lawful-parents (trim st) h.roomy.lawful) p (node_at (trim st) (slot_at (trim st) spot.at)) there not-dir x r in
+      let e = leaf_other (state (trim st)).tree (lawful-parents (trim st) h.roomy.lawful) p (node_at (trim st) (slot_at (trim st) spot.at)) there not-dir x r in
       no_look (look s.tree (p ++ (x ∷ r))) (sym (told st s h (kind? (p ++ (x ∷ r)))) ∙ ap (λ (o : Option Node). on_some {B = Kind} o (λ b. some (node_kind b))) e)
 
   abbrev out : World
   out = apply (remove p) (world_of s)
 
-  out-tidy : Tidy out
-  out-tidy = tidy-edit (remove p) (world_of s) (shaped-tidy s h.shaped)
+  out_tidy : Tidy out
+  out_tidy = tidy-edit (remove p) (world_of s) (shaped-tidy s h.shaped)
 
-  out-empty : Empty out
+  out_empty : Empty out
   unfolding apply
-  out-empty = look_none
+  out_empty = look_none
 
   pub replace-fits : Shaped (edited (remove p) s) → Fits (edited (symlink p m t) (edited (remove p) s))
-  replace-fits o = fits-chain s out out-tidy out-empty o (symlink p m t ∷ []) (subst (λ (w : World). Fits (state_of s w)) (sym (relinked (world_of s) p m t below)) f.fits)
+  replace-fits o = fits-chain s out out_tidy out_empty o (symlink p m t ∷ []) (subst (λ (w : World). Fits (state_of s w)) (sym (relinked (world_of s) p m t below)) f.fits)
 
   pub replaced : (u : Store) → Shaped (edited (remove p) s) → Shows u (edited (symlink p m t) (edited (remove p) s)) → Shows u (edited (symlink p m t) s)
-  replaced u o k = subst (λ (w : World). Shows u (state_of s w)) (relinked (world_of s) p m t below) (shows-chain s out out-tidy out-empty o (symlink p m t ∷ []) u k)
+  replaced u o k = subst (λ (w : World). Shows u (state_of s w)) (relinked (world_of s) p m t below) (shows-chain s out out_tidy out_empty o (symlink p m t ∷ []) u k)
 
 -- ---- the place of the entry
 

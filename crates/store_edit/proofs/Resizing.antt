@@ -20,8 +20,8 @@ module _ (st u : Store) (r : Resized st u) where
   pub count-resized : count u ≡ count st
   count-resized = r.words 2 (λ e. omega (arith, e))
 
-  pub most-resized : most u ≡ most st
-  most-resized = r.words 0 (λ e. omega (arith, e))
+  pub most_resized : most u ≡ most st
+  most_resized = r.words 0 (λ e. omega (arith, e))
 
   pub room-resized : room u ≡ room st
   room-resized = r.words 1 (λ e. omega (arith, e))

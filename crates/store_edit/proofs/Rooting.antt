@@ -26,18 +26,18 @@ use Rattle.edit_entry.specs.Insertion as insertion
 use Rattle.edit_room.specs.Extents.{trim, Reserved}
 use Rattle.store.specs.Shows.{Shows, Stands}
 use Rattle.store_edit.specs.Entries.{MayMakeRoot}
-use Rattle.store_edit.proofs.Blocks.{first-path}
+use Rattle.store_edit.proofs.Blocks.{first_path}
 use Rattle.store_edit.proofs.Carrying.{whole, trim_whole, shows-resized}
-use Rattle.store_edit.proofs.Fitting.{was-spaced, fits-back}
+use Rattle.store_edit.proofs.Fitting.{was_spaced, fits-back}
 use Rattle.store_edit.proofs.Inserting.{look-missing}
-use Rattle.store_edit.proofs.Resizing.{count-resized, most-resized}
+use Rattle.store_edit.proofs.Resizing.{count-resized, most_resized}
 
 module _ {st u : Store} {s : State} (h : Shows st s) (r : Reserved st u) where
   abbrev w : Shows u s
   w = shows-resized h r.resized
 
   pub root-may : (m : Meta) → MayMakeRoot m s → insertion.MayRoot (trim u)
-  root-may m f = record { empty = empty (ℕ_discrete (count u) 0); free = r.free (omega (arith, empty (ℕ_discrete (count u) 0), few, count-resized st u r.resized, most-resized st u r.resized)) }
+  root-may m f = record { empty = empty (ℕ_discrete (count u) 0); free = r.free (omega (arith, empty (ℕ_discrete (count u) 0), few, count-resized st u r.resized, most_resized st u r.resized)) }
     where
       missing : look (state (trim u)).tree [] ≡ none
       missing = look-missing u s w [] f.missing
@@ -46,10 +46,10 @@ module _ {st u : Store} {s : State} (h : Shows st s) (r : Reserved st u) where
       empty (yes e) = e
       empty (no n) =
           let low : 0 < count u = omega (arith, n) in
-          clash (look (state (trim u)).tree []) _ missing (ap (look (state (trim u)).tree) (sym (first-path (trim u) w.roomy.lawful low)) ∙ path-look (trim u) w.roomy.lawful 0 low)
+          clash (look (state (trim u)).tree []) _ missing (ap (look (state (trim u)).tree) (sym (first_path (trim u) w.roomy.lawful low)) ∙ path-look (trim u) w.roomy.lawful 0 low)
 
       few : 1 ≤ most u
-      few = omega (arith, (fits-back u s w (make [] m ∷ []) f.fits).0, (after-make (state (trim u)) (was-spaced u s w) [] m missing).entries)
+      few = omega (arith, (fits-back u s w (make [] m ∷ []) f.fits).0, (after-make (state (trim u)) (was_spaced u s w) [] m missing).entries)
 
 none_there : (t : Entries) → length t ≡ 0 → t ≡ []
 none_there [] e = refl
@@ -71,7 +71,7 @@ unfolding name_total
 stands-root {u = u} {v = v} h m t k =
     let low = has_root v (state (trim u)) (new_meta m t) k.lawful k.alike in
     subst (λ (y : Store). At y (record { at = 0; off = 0 }) []) (sym (trim_whole u v k.lawful))
-    (record { within = low; offset = refl; path = first-path v k.lawful low })
+    (record { within = low; offset = refl; path = first_path v k.lawful low })
 
 -- a time that was passed on is the time that was given
 pub same_rooted : {u v : Store} {s : State} → Shows u s → (m : ℕ) {t y : Time} → t ≡ y → insertion.Rooted (trim u) v m t → insertion.Rooted (trim u) v m y

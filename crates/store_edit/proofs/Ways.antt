@@ -39,7 +39,7 @@ use Rattle.edit_entry.proofs.Outside.{Besides, beside, gap-clear}
 use Rattle.store.specs.Shows.{Shows, Stands}
 use Rattle.store_edit.specs.Moves.{MayMove}
 use Rattle.store_edit.proofs.Blocks.{below_root}
-use Rattle.store_edit.proofs.Fitting.{fits-back, was-spaced}
+use Rattle.store_edit.proofs.Fitting.{fits-back, was_spaced}
 
 -- what a look does not find, it does not find in a part
 none_cut : (p o : Path) (t : Entries) → look t o ≡ none → look (cut p t) o ≡ none
@@ -175,7 +175,7 @@ module _ (st : Store) (s : State) (sh : Shows st s) (spot : Spot) (p d : Path) (
   fits : name_total (live (trim st)) + length y + total (trim st).heads ≤ room st + length (row_at (trim st) i).name
   fits =
       let f = fits-back st s sh (prog.take p ∷ prog.give new ∷ []) m.fits in
-      let u = after-move was (was-spaced st s sh) p new _ (ap (look was.tree) (sym a.path) ∙ path-look (trim st) l i a.within) bare in
+      let u = after-move was (was_spaced st s sh) p new _ (ap (look was.tree) (sym a.path) ∙ path-look (trim st) l i a.within) bare in
       let n = (weight_is (trim st) l spot p a _ _ _ refl refl refl).name in
       omega (arith, f.1, u.bytes, bytes-used (trim st) l, n, name-long (trim st) l spot p a, snoc-length d y)
 

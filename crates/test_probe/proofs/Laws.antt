@@ -70,12 +70,12 @@ module _ (out : Bytes) (have : ℕ) (behind : Bytes) (name : ℕ) (target : Byte
       let t : leb (length (body (names (take have out))) + length behind) 1024 ≡ false = lt-leb (length (body (names (take have out))) + length behind) 1024 (omega (arith, size)) in
       record { answer = rw t; buffer = rw t }
 
-  pub behind-all : {mid after : Bytes} {f : Formed} {r : ℕ} → have + length behind ≤ 1024 → name ≤ length behind
+  pub behind_all : {mid after : Bytes} {f : Formed} {r : ℕ} → have + length behind ≤ 1024 → name ≤ length behind
       → mid ≡ take have out ++ (behind ++ drop (have + length behind) out)
       → Forms (body (absolute (names (take have mid)) target) ++ part (have + name) (have + length behind) mid) mid after f
       → r ≡ number_of f → BehindAnswers (names (take have out)) behind name target out after r
   unfolding behind_answer behind_buffer fits staged followed_text
-  behind-all {mid} {after} {f} {r} h k m w n =
+  behind_all {mid} {after} {f} {r} h k m w n =
       let l : length (take have out) ≡ have = length-take-le have out room in
       let front : take have mid ≡ take have out = ap (λ (x : Bytes). take have x) m ∙ take_at (take have out) _ have l in
       let rest : part (have + name) (have + length behind) mid ≡ drop name behind =

@@ -40,9 +40,9 @@ walked_more st s e f i j w p g h =
 pub walked_all : (st : Store) (s : Bytes) (e i : ℕ) → length s ≤ e → Walked st s e i → i < count st → pieces s ≡ [] ∷ path_at st i
 walked_all st s e i l w h = ap pieces (sym (take_all e s l)) ∙ w h
 
-pub file_at : (st : Store) → Lawful st → (s : Bytes) (i k : ℕ) → T (cell_ok s) → i < count st → pieces s ≡ [] ∷ path_at st i → k ≡ slot_at st i → kind_at st k ≡ 2
+pub file_at_lem : (st : Store) → Lawful st → (s : Bytes) (i k : ℕ) → T (cell_ok s) → i < count st → pieces s ≡ [] ∷ path_at st i → k ≡ slot_at st i → kind_at st k ≡ 2
     → look (state st).tree (names s) ≡ some (file k)
-file_at st l s i k t h w z d =
+file_at_lem st l s i k t h w z d =
     let y : [] ∷ names s ≡ [] ∷ path_at st i = sym (cell-pieces s t).0 ∙ w in
     let n : names s ≡ path_at st i = cc in
     ap (look (state st).tree) n ∙ path-look st l i h ∙ ap (λ (j : ℕ). some (node_by (kind_at st j) j (meta_at st j) (bytes_at st j))) (sym z) ∙ ap (λ (b : ℕ). some (node_by b k (meta_at st k) (bytes_at st k))) d

@@ -17,7 +17,7 @@ use Rattle.path.specs.declared.answer.Formed.{Formed}
 use Rattle.path.specs.declared.answer.Formed.TheVariants.{Text, TooLong}
 use Rattle.path.proofs.Allowed.{FormedIs, formed_is, absolute-shown}
 use Rattle.path.proofs.Cutting.{drop_of_take}
-use Rattle.path.proofs.Every.{Every, every_append, every-dropLast}
+use Rattle.path.proofs.Every.{Every, every_append, every-drop_last}
 use Rattle.path.proofs.Laws.{Shown, names-shown, names-body}
 use Rattle.path.proofs.Reading.{body-append}
 use Rattle.model.specs.Tree.{Path}
@@ -68,7 +68,7 @@ module _ (st : Store) (s : State) (w : World) (out : Bytes) (len : ℕ) (spot : 
   dir-text = sym (take-take d len out (omega (arith, k.up, rest-low))) ∙ k.dir
 
   dir-shown : Every Shown (drop_last here)
-  dir-shown = every-dropLast Shown here (names-shown (take e text))
+  dir-shown = every-drop_last Shown here (names-shown (take e text))
 
   dir-names : names (take d out) ≡ drop_last here
   dir-names = ap names dir-text ∙ names-body (drop_last here) dir-shown

@@ -194,8 +194,8 @@ module _ (has : Store → Store) (h bound : ℕ) where
         chain-long z st s y w a =
             linked_long (has st) s w h bound text out left n total (g.linked st s y w a) after r (walks st s y w a) spot d e low fit out₂ (follows TooLong z st s y w a)
 
-        pub chain-on : Some has → (m k : ℕ) → t ≡ Text m → k ≡ total + r.links + 1 → length out₂ ≡ length first → Chained has h bound text first out₂ (left - 1) m k
-        chain-on y m k z c long =
+        pub chain_on : Some has → (m k : ℕ) → t ≡ Text m → k ≡ total + r.links + 1 → length out₂ ≡ length first → Chained has h bound text first out₂ (left - 1) m k
+        chain_on y m k z c long =
             let p : Kept out₂ (Text m) = subst (Kept out₂) z (kept_in_lem has h (take r.len after) spot d r.len out₂ t y (chain_link fit) f) in
             let q = walks-few has h (take n out) after r y walks in
             record {

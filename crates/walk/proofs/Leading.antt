@@ -144,36 +144,36 @@ directory-kind w v b p t e = go (run (leads b p) w) (sym (directory-run w b p _ 
 -- the path leads to the directory d, and the entry x is looked for in it
 module _ (st : Store) (s : State) (w : World) (h b : ℕ) (text : Bytes) (x : Name) (out : Bytes) (r : Led) (spot : Spot) (k n c : ℕ) (e : r ≡ led.There spot k n c)
     (y : Leads (directory b) st s w text out r) where
-  abbrev led-there : Leads (directory b) st s w text out (led.There spot k n c)
-  led-there = subst (Leads (directory b) st s w text out) e y
+  abbrev led_there : Leads (directory b) st s w text out (led.There spot k n c)
+  led_there = subst (Leads (directory b) st s w text out) e y
 
   abbrev dir-path : Path
   dir-path = names (take n out)
 
   pub dir-stands : Stands st spot dir-path
-  dir-stands = led-there.place.1.at
+  dir-stands = led_there.place.1.at
 
   pub dir-kind : answer (kind? dir-path) w ≡ some a_dir
-  dir-kind = led-there.place.2 ∙ ap some (directory-kind w w b (names text) _ led-there.answer)
+  dir-kind = led_there.place.2 ∙ ap some (directory-kind w w b (names text) _ led_there.answer)
 
-  last-answer : (o : Option Kind) → answer (kind? (dir-path ++ (x ∷ []))) w ≡ o
-      → run (last_entry b (names text ++ (x ∷ []))) w ≡ done (record { path = dir-path ++ (x ∷ []); kind = o; links = led-there.links }) w
-  last-answer o z =
-      last_run w b (names text) x _ led-there.answer ∙ named-run w x _ ∙ ap (λ (a : Option Kind). done (record { path = dir-path ++ (x ∷ []); kind = a; links = led-there.links }) w) z
+  last_answer : (o : Option Kind) → answer (kind? (dir-path ++ (x ∷ []))) w ≡ o
+      → run (last_entry b (names text ++ (x ∷ []))) w ≡ done (record { path = dir-path ++ (x ∷ []); kind = o; links = led_there.links }) w
+  last_answer o z =
+      last_run w b (names text) x _ led_there.answer ∙ named-run w x _ ∙ ap (λ (a : Option Kind). done (record { path = dir-path ++ (x ∷ []); kind = a; links = led_there.links }) w) z
 
-  in-front : DirInFront w led-there.links out n c
-  in-front = record { front = led-there.place.0; dir = dir-kind }
+  in-front : DirInFront w led_there.links out n c
+  in-front = record { front = led_there.place.0; dir = dir-kind }
 
   pub last_found : (g : Look) (at : Spot) → g ≡ look.Found at → LookIs st s w h dir-path x g → (j : ℕ) → (There st s w (dir-path ++ (x ∷ [])) at → says (kind? (dir-path ++ (x ∷ []))) s ≡ some (kind_from j))
       → LastIs st s w h b text x out (last.Found at j n c)
   last_found g at i l j z =
       let t = subst (LookIs st s w h dir-path x) i l in let m = t.kind ∙ z t in
-      record { links = led-there.links; answer = last-answer _ m; place = (in-front, t, m) }
+      record { links = led_there.links; answer = last_answer _ m; place = (in-front, t, m) }
 
-  pub last-missing : (g : Look) (gap : Gap) → g ≡ look.Missing gap → LookIs st s w h dir-path x g → LastIs st s w h b text x out (last.Missing gap n c)
-  last-missing g gap i l =
+  pub last_missing : (g : Look) (gap : Gap) → g ≡ look.Missing gap → LookIs st s w h dir-path x g → LastIs st s w h b text x out (last.Missing gap n c)
+  last_missing g gap i l =
       let t = subst (LookIs st s w h dir-path x) i l in
-      record { links = led-there.links; answer = last-answer _ t.0; place = (in-front, t.0, t.1) }
+      record { links = led_there.links; answer = last_answer _ t.0; place = (in-front, t.0, t.1) }
 
 pub last_refused : (st : Store) (s : State) (w : World) (h b : ℕ) (text : Bytes) (x : Name) (out : Bytes) (r : Led) (n : ℕ) → r ≡ led.Refused n
     → Leads (directory b) st s w text out r → LastIs st s w h b text x out (last.Refused n)

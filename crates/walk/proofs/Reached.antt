@@ -80,8 +80,8 @@ pub record Reached (st : Store) (s : State) (w : World) (text : Bytes) (spot : S
   pub same : run (until_symlink [] (names text)) w ≡ run (until_symlink here rest) w
 
 module _ (st : Store) (s : State) (w : World) (h : ℕ) (text : Bytes) where
-  pub no-root : (g : Gap) → count st ≡ 0 → answer (kind? []) w ≡ none → Meets st s w h text (Missing g 0)
-  no-root g z e = record { answer = until_none w [] (names text) e; place = the_root refl z e }
+  pub no_root : (g : Gap) → count st ≡ 0 → answer (kind? []) w ≡ none → Meets st s w h text (Missing g 0)
+  no_root g z e = record { answer = until_none w [] (names text) e; place = the_root refl z e }
 
   pub at-root : (spot : Spot) → Plain text → There st s w [] spot → Reached st s w text spot 0 0
   unfolding body

@@ -19,7 +19,7 @@ use Rattle.ask_find.specs.declared.Spot.{Spot}
 use Rattle.ask_find.specs.declared.Look.TheVariants.{Found}
 use Rattle.ask_find.specs.Paths.{path_at}
 use Rattle.ask_find.specs.Spots.{At, nothing}
-use Rattle.ask_find.proofs.Children.{path-one, root-found}
+use Rattle.ask_find.proofs.Children.{path_one, root-found}
 use Rattle.ask_entry.proofs.Stats.{kind-told}
 use Rattle.store.specs.Shows.{Shows, says, Asked, whole, without, There, RootIs}
 use Rattle.store.proofs.Asked.{told}
@@ -39,24 +39,24 @@ never st s h w (without q g y) e z = absurd (omega (arith, g, z))
 
 module _ (st : Store) (s : State) (x : Shows st s) (spot : Spot) (f : RootIs st s (Found spot)) where
   -- the root is an entry, and has a kind
-  root-at : At (trim st) spot []
-  root-at = f.0
+  root_at : At (trim st) spot []
+  root_at = f.0
 
   root-kind : (k : Kind) × (says (kind? []) s ≡ some k)
   root-kind =
-      (_, sym (told st s x (kind? [])) ∙ ap (λ (p : Path). says (kind? p) (state (trim st))) (sym root-at.path) ∙ kind-told (trim st) x.roomy.lawful spot.at root-at.within)
+      (_, sym (told st s x (kind? [])) ∙ ap (λ (p : Path). says (kind? p) (state (trim st))) (sym root_at.path) ∙ kind-told (trim st) x.roomy.lawful spot.at root_at.within)
 
   -- it is the first record's
-  first-path : path_at (trim st) 0 ≡ []
-  first-path = (root-found (trim st) x.roomy.lawful (omega (arith, root-at.within)) (count st) (state (trim st)).tree (nothing (omega arith) refl)).at.path
+  first_path : path_at (trim st) 0 ≡ []
+  first_path = (root-found (trim st) x.roomy.lawful (omega (arith, root_at.within)) (count st) (state (trim st)).tree (nothing (omega arith) refl)).at.path
 
   stays : (h : ℕ) (q : Path) → 0 < h → h < count st → path_at (trim st) h ≡ q → answer (kind? []) (apply (take q) (world_of s)) ≡ says (kind? []) s
   unfolding answer apply behind
   stays h [] a g y =
-      absurd (omega (arith, a, path-one (trim st) x.roomy.lawful 0 h (omega (arith, g)) g (first-path ∙ sym y)))
+      absurd (omega (arith, a, path_one (trim st) x.roomy.lawful 0 h (omega (arith, g)) g (first_path ∙ sym y)))
   stays h (n ∷ q) a g y = ap (λ (o : Option Node). on_some {B = Kind} o (λ m. some (node_kind m))) (cut_out (n ∷ q) [] (world_of s).at refl)
 
-  pub root-there : (h : ℕ) (w : World) → 0 < h → Asked st s h w → There st s w [] spot
-  root-there h w a (whole g) = f.1 h (world_of s) root-kind.0 (whole g) root-kind.1
-  root-there h w a (without q g y) =
+  pub root_there : (h : ℕ) (w : World) → 0 < h → Asked st s h w → There st s w [] spot
+  root_there h w a (whole g) = f.1 h (world_of s) root-kind.0 (whole g) root-kind.1
+  root_there h w a (without q g y) =
       f.1 h (apply (take q) (world_of s)) root-kind.0 (without q g y) (stays h q a g y ∙ root-kind.1)

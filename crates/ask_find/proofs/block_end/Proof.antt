@@ -8,7 +8,7 @@ use lib.ListN.{get_or}
 use Rattle.layout.specs.Fields.{depth_of}
 use Rattle.ask_find.specs.Spans.{span}
 use Rattle.ask_find.proofs.Reading.{from}
-use Rattle.ask_find.proofs.Spans.{span-end, span-out, span-on}
+use Rattle.ask_find.proofs.Spans.{span-end, span_out, span_on}
 use Rattle.ask_find.proofs.block_end.Statement.{statement}
 use Rattle.ask_find.proofs.block_end.Tie as tie
 
@@ -54,7 +54,7 @@ depth-of-requires-2 c κs = search rules
 returns : tie.Need-returns invariant-loop decreases-loop
 returns c = let a = c.before.before.before.before.before.before.before.before.args in
     let l = c.before.before.before.before.loop in
-    omega (arith, l.invariant.1, span-out a.records.now a.count c.before.before.before.before.before.before.before.before.requires.0 (depth_of (get_or a.records.now a.i 0)) l.e c.before.before.before.loop-test.true (omega arith))
+    omega (arith, l.invariant.1, span_out a.records.now a.count c.before.before.before.before.before.before.before.before.requires.0 (depth_of (get_or a.records.now a.i 0)) l.e c.before.before.before.loop-test.true (omega arith))
 
 -- src/lib.rt:72:9
 add-e-2 : tie.Need-overflow-add-e-2 invariant-loop decreases-loop
@@ -68,7 +68,7 @@ loop-less c = omega arith
 loop-again : tie.Need-loop-preserved invariant-loop decreases-loop
 loop-again c = let a = c.before.before.before.before.before.before.before.before.args in
     let l = c.before.before.before.before.loop in
-    (omega arith, rw (add-one l.e) (omega (arith, l.invariant.1, span-on a.records.now a.count c.before.before.before.before.before.before.before.before.requires.0 (depth_of (get_or a.records.now a.i 0)) l.e c.before.before.before.loop-test.true (omega arith))))
+    (omega arith, rw (add-one l.e) (omega (arith, l.invariant.1, span_on a.records.now a.count c.before.before.before.before.before.before.before.before.requires.0 (depth_of (get_or a.records.now a.i 0)) l.e c.before.before.before.loop-test.true (omega arith))))
 
 -- src/lib.rt:62:1
 returns-2 : tie.Need-returns-2 invariant-loop decreases-loop

@@ -9,7 +9,7 @@ use Rattle.layout.specs.Store.{Store, count, rows_of}
 use Rattle.ask_find.specs.Finds.{find_in}
 use Rattle.ask_find.specs.declared.Place.{Place}
 use Rattle.ask_find.specs.declared.Place.TheVariants.{Found, Missing}
-use Rattle.ask_find.proofs.Children.{Ready, ready, asked_is, next-is, depth_is, child-found, child-hidden, child-missing}
+use Rattle.ask_find.proofs.Children.{Ready, ready, asked_is, next_is, depth_is, child-found, child-hidden, child-missing}
 use borrow.Author.Rules.{rules}
 use Rattle.ask_find.proofs.child.Statement.{statement}
 use Rattle.ask_find.proofs.child.Tie as tie
@@ -58,7 +58,7 @@ offset : (c : tie.After-find-child) → (st : Store) → let s = c.before.before
     st.records ≡ s.records.now → st.bytes ≡ s.bytes.now → count st ≡ s.count → s.dir.off + c.before.before.nlen-of.result ≡ name_total (take (s.dir.at + 1) st.records)
 offset c st e f n =
     let s = c.before.before.before.before.before.before.before.before.args in
-    next-is s.records.now s.bytes.now s.count st e f n s.dir (s.dir.off + c.before.before.nlen-of.result) (next c.before)
+    next_is s.records.now s.bytes.now s.count st e f n s.dir (s.dir.off + c.before.before.nlen-of.result) (next c.before)
 
 deep : (c : tie.After-find-child) → (st : Store) → let s = c.before.before.before.before.before.before.before.before.args in
     st.records ≡ s.records.now → st.bytes ≡ s.bytes.now → count st ≡ s.count → c.before.before.before.depth-of.result + 1 ≡ depth_of (get_or st.records s.dir.at 0) + 1

@@ -10,7 +10,7 @@ use Rattle.layout.specs.Rows.{name_total}
 use Rattle.name_order.specs.Order.{order_of}
 use Rattle.ask_find.specs.Finds.{scan}
 use Rattle.ask_find.proofs.Reading.{from}
-use Rattle.ask_find.proofs.Scan.{scan-room, scan-end, scan-out, scan-deeper, scan-less, scan-same, scan-more}
+use Rattle.ask_find.proofs.Scan.{scan-room, scan-end, scan_out, scan-deeper, scan-less, scan_same, scan_more}
 use Rattle.ask_find.proofs.find_from.Statement.{statement}
 use Rattle.ask_find.proofs.find_from.Tie as tie
 
@@ -55,7 +55,7 @@ depth-of-requires c κs = search rules
 returns : tie.Need-returns invariant-loop decreases-loop
 returns c = let a = c.before.before.before.before.before.before.before.before.args in
     let l = c.before.before.before.before.loop in
-    sym (l.invariant.2 ∙ scan-out a.records.now a.bytes.now a.count a.d a.name.now l.j l.o c.before.before.before.before.before.before.before.before.requires.0 c.before.before.before.loop-test.true (omega arith))
+    sym (l.invariant.2 ∙ scan_out a.records.now a.bytes.now a.count a.d a.name.now l.j l.o c.before.before.before.before.before.before.before.before.requires.0 c.before.before.before.loop-test.true (omega arith))
 
 -- src/lib.rt:98:21
 nlen-of-requires : tie.Need-nlen-of-requires invariant-loop decreases-loop
@@ -112,7 +112,7 @@ enum-told-2 c = search rules
 returns-2 : tie.Need-returns-2 invariant-loop decreases-loop
 returns-2 c = let a = c.before.before.before.before.before.before.before.before.before.before.before.before.before.before.args in
     let l = c.before.before.before.before.before.before.before.before.before.before.loop in
-    sym (l.invariant.2 ∙ scan-same a.records.now a.bytes.now a.count a.d a.name.now l.j l.o c.before.before.before.before.before.before.before.before.before.before.before.before.before.before.requires.0 c.before.before.before.before.before.before.before.before.before.loop-test.true (omega arith) (met c.before.before ∙ c.enum-told2.given.1))
+    sym (l.invariant.2 ∙ scan_same a.records.now a.bytes.now a.count a.d a.name.now l.j l.o c.before.before.before.before.before.before.before.before.before.before.before.before.before.before.requires.0 c.before.before.before.before.before.before.before.before.before.loop-test.true (omega arith) (met c.before.before ∙ c.enum-told2.given.1))
 
 -- src/lib.rt:110:17
 enum-told-3 : tie.Need-enum-told-3 invariant-loop decreases-loop
@@ -122,7 +122,7 @@ enum-told-3 c = search rules
 returns-3 : tie.Need-returns-3 invariant-loop decreases-loop
 returns-3 c = let a = c.before.before.before.before.before.before.before.before.before.before.before.before.before.before.args in
     let l = c.before.before.before.before.before.before.before.before.before.before.loop in
-    sym (l.invariant.2 ∙ scan-more a.records.now a.bytes.now a.count a.d a.name.now l.j l.o c.before.before.before.before.before.before.before.before.before.before.before.before.before.before.requires.0 c.before.before.before.before.before.before.before.before.before.loop-test.true (omega arith) (met c.before.before ∙ c.enum-told3.given.1))
+    sym (l.invariant.2 ∙ scan_more a.records.now a.bytes.now a.count a.d a.name.now l.j l.o c.before.before.before.before.before.before.before.before.before.before.before.before.before.before.requires.0 c.before.before.before.before.before.before.before.before.before.loop-test.true (omega arith) (met c.before.before ∙ c.enum-told3.given.1))
 
 -- src/lib.rt:113:9
 add-j-2 : tie.Need-overflow-add-j-2 invariant-loop decreases-loop

@@ -10,7 +10,7 @@ use Rattle.layout.specs.Store as store
 use Rattle.layout.specs.Lawful.{Lawful}
 use Rattle.ask_find.proofs.Children.{Ready, ready}
 use Rattle.ask_list.specs.Listed.{listed_from}
-use Rattle.ask_list.proofs.Spotted.{listing-by}
+use Rattle.ask_list.proofs.Spotted.{listing_by}
 use Rattle.ask_list.proofs.Steps.{listed-out, listed-past, count-on, listed-end}
 use borrow.Author.Rules.{rules}
 use Rattle.ask_list.proofs.entry_count.Statement.{statement}
@@ -56,7 +56,7 @@ returns c = λ st e n l p a.
     let g = c.before.before.before.before.before.before.before.before.args in
     let v = c.before.before.before.before.loop in
     let d = depth_of (get_or g.records.now g.spot.at 0) in
-    omega (arith, v.invariant.2 st e n l, ap length (listing-by st l g.records.now e g.spot p a), ap length (listed-out st l v.e (omega (arith, n, c.before.before.before.loop-test.true)) d (omega (arith, ap (λ (us : List ℕ). depth_of (get_or us v.e 0)) e, c.before.depth-of2.ensures, c.before.before.before.before.before.depth-of.ensures, c.if1.true))))
+    omega (arith, v.invariant.2 st e n l, ap length (listing_by st l g.records.now e g.spot p a), ap length (listed-out st l v.e (omega (arith, n, c.before.before.before.loop-test.true)) d (omega (arith, ap (λ (us : List ℕ). depth_of (get_or us v.e 0)) e, c.before.depth-of2.ensures, c.before.before.before.before.before.depth-of.ensures, c.if1.true))))
 
 add-e-2 : tie.Need-overflow-add-e-2 invariant-loop decreases-loop
 add-e-2 c = let r = at-hand c.before.before.before.before.before.before.before.before in omega (arith, r.long, r.within, r.few, r.low)
@@ -99,7 +99,7 @@ returns-2 c = λ st e n l p a.
     let g = c.before.before.before.before.before.args in
     let v = c.before.loop in
     let d = depth_of (get_or g.records.now g.spot.at 0) in
-    omega (arith, v.invariant.2 st e n l, ap length (listing-by st l g.records.now e g.spot p a), ap length (listed-end st l v.e d (omega (arith, n, c.loop-test.false))))
+    omega (arith, v.invariant.2 st e n l, ap length (listing_by st l g.records.now e g.spot p a), ap length (listed-end st l v.e d (omega (arith, n, c.loop-test.false))))
 
 pub entry-count-spec : {M : Type 1} → statement M
 entry-count-spec =

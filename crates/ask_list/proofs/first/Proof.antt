@@ -13,7 +13,7 @@ use Rattle.ask_list.specs.Listed.{listing_of, listed_from}
 use lib.Seq.{take-length}
 use Rattle.ask_list.proofs.Bare.{next-depth}
 use Rattle.ask_list.proofs.Steps.{listed-end, listed-out}
-use Rattle.ask_list.proofs.Spotted.{listing-spot, spot-depth, leads-at}
+use Rattle.ask_list.proofs.Spotted.{listing-spot, spot-depth, leads_at}
 use borrow.Author.Rules.{rules}
 use Rattle.ask_list.proofs.first.Statement.{statement}
 use Rattle.ask_list.proofs.first.Tie as tie
@@ -68,7 +68,7 @@ returns-3 c = λ st e n l p a.
     let u = spot-depth st l s p a in
     let b : s.at + 1 - 1 ≡ s.at = omega arith in
     let o = ap (λ (k : ℕ). s.off + k) c.before.nlen-of.ensures ∙ (at-hand c.before.before.before.before.before.before.before.before.before).next ∙ ap (λ (us : List ℕ). name_total (take (s.at + 1) us)) (sym e) in
-    leads-at st l (s.at + 1) (omega arith) h p (s.off + c.before.nlen-of.result) (ap (λ (k : ℕ). take (length p) (path_at st k)) b ∙ ap (take (length p)) a.path ∙ take-length p) (omega (arith, u, x, y, c.before.before.if2.false, next-depth st l s.at a.within h)) o
+    leads_at st l (s.at + 1) (omega arith) h p (s.off + c.before.nlen-of.result) (ap (λ (k : ℕ). take (length p) (path_at st k)) b ∙ ap (take (length p)) a.path ∙ take-length p) (omega (arith, u, x, y, c.before.before.if2.false, next-depth st l s.at a.within h)) o
     (listing_of st p) (listing-spot st l s p a ∙ ap (λ (m : ℕ). listed_from st m (s.at + 1)) u)
 
 pub first_spec : {M : Type 1} → statement M

@@ -14,7 +14,7 @@ use Rattle.ask_find.specs.Spots.{At}
 use Rattle.ask_find.proofs.Children.{Ready, ready}
 use Rattle.ask_list.specs.Listed.{listed_from}
 use Rattle.ask_list.proofs.Steps.{listed-end, listed-out, listed-past}
-use Rattle.ask_list.proofs.Spotted.{total_next, keeps-at, leads-at, entry-depth, entry-up}
+use Rattle.ask_list.proofs.Spotted.{total_next, keeps_at, leads_at, entry-depth, entry-up}
 use borrow.Author.Rules.{rules}
 use Rattle.ask_list.proofs.next.Statement.{statement}
 use Rattle.ask_list.proofs.next.Tie as tie
@@ -83,7 +83,7 @@ returns-2 c = λ st e n l q a p x z.
     let f = entry-depth st l s p x w in
     let g = ap (λ (us : List ℕ). depth_of (get_or us s.at 0)) e in
     let i = v.invariant.4 st e n l (length p) (sym f ∙ g) in
-    leads-at st l v.j (omega (arith, v.invariant.1)) (omega (arith, n, c.before.before.before.before.loop-test.true)) p v.o (i.1 ∙ entry-up st l s p x w)
+    leads_at st l v.j (omega (arith, v.invariant.1)) (omega (arith, n, c.before.before.before.before.loop-test.true)) p v.o (i.1 ∙ entry-up st l s p x w)
     (omega (arith, f, g, ap (λ (us : List ℕ). depth_of (get_or us v.j 0)) e, c.before.before.depth-of2.ensures, c.before.before.before.before.before.before.before.before.depth-of.ensures, c.if2.true)) (v.invariant.2 ∙ ap (λ (us : List ℕ). name_total (take v.j us)) (sym e)) (listed_from st (length p) (s.at + 1)) i.0
 
 add-j-2 : tie.Need-overflow-add-j-2 invariant-loop decreases-loop
@@ -109,7 +109,7 @@ loop-again c = let r = at-hand c.before.before.before.before.before.before.befor
           let i = v.invariant.4 st e n l m d in
           let h : v.j < store.count st = omega (arith, n, c.before.before.before.before.before.loop-test.true) in
           let k : suc m < depth_of (get_or st.records v.j 0) = omega (arith, d, ap (λ (us : List ℕ). depth_of (get_or us v.j 0)) e, c.before.before.before.depth-of2.ensures, c.before.before.before.before.before.before.before.before.before.depth-of.ensures, c.before.before.if1.false, c.before.if2.false) in
-          (i.0 ∙ listed-past st l v.j h m (omega (arith, k)) (λ y. omega (arith, k, y)), keeps-at st l v.j (omega (arith, v.invariant.1)) h m (omega (arith, k)) ∙ i.1),
+          (i.0 ∙ listed-past st l v.j h m (omega (arith, k)) (λ y. omega (arith, k, y)), keeps_at st l v.j (omega (arith, v.invariant.1)) h m (omega (arith, k)) ∙ i.1),
     )
 
 returns-3 : tie.Need-returns-3 invariant-loop decreases-loop

@@ -8,7 +8,7 @@ use lib.ListN.{length, take, drop, get_or, length-append}
 use Rattle.layout.specs.Fields.{nlen_of}
 use Rattle.layout.specs.Rows.{name_total}
 use Rattle.ask_list.proofs.Texts.{Written, written_start, written_same, written-room, written_next, written-end}
-use Rattle.ask_list.proofs.Words.{text_from, name_from, text-end, text_out, text-past, text-on, text-room, name-from}
+use Rattle.ask_list.proofs.Words.{text_from, name_from, text-end, text_out, text-past, text_on, text-room, name-from}
 use Rattle.ask_list.proofs.put_behind.Statement.{statement}
 use Rattle.ask_list.proofs.put_behind.Tie as tie
 
@@ -103,7 +103,7 @@ put-name-requires c κs =
     let h = c.before.before.before.before.before.before.before.loop-test.true in
     let n = c.before.before.before.nlen-of in
     let e : l.o + n.result - l.o ≡ nlen_of (get_or ws l.j 0) = omega (arith, n.ensures) in
-    let t = text-on ws bs g.d l.j l.o h (omega arith) in
+    let t = text_on ws bs g.d l.j l.o h (omega arith) in
     omega (
       arith,
       ap (λ (m : ℕ). length (take m (drop l.o bs))) e,
@@ -141,7 +141,7 @@ loop-again-2 c =
       written_next g.out.now whole l.out l.k x (take (l.o + n.result - l.o) (drop l.o bs)) (text_from ws bs g.d (l.j + 1) (l.o + n.result)) _ (l.o + n.result - l.o) c.before.before.before.before.before.before.before.before.before.before.before.before.before.before.before.requires.1
           (ap (λ (a : ℕ). take a (drop l.o bs)) m) c.before.before.put-name.ensures (m ∙ sym (name-from ws bs g.d l.j l.o h l.invariant.1))
           (written_same g.out.now whole l.out l.k (text_from ws bs g.d l.j l.o) _
-          (text-on ws bs g.d l.j l.o h (omega arith) ∙ ap (λ (a : ℕ). x ++ (0 ∷ text_from ws bs g.d (l.j + 1) a)) (sym e)) l.invariant.2),
+          (text_on ws bs g.d l.j l.o h (omega arith) ∙ ap (λ (a : ℕ). x ++ (0 ∷ text_from ws bs g.d (l.j + 1) a)) (sym e)) l.invariant.2),
     )
 
 same-length-2 : tie.Need-same-length-2 invariant-loop decreases-loop

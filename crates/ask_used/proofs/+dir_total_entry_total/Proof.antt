@@ -6,8 +6,8 @@ use borrow.Author.Rules.{rules}
 use Rattle.ask_find.specs.Spans.{span}
 use Rattle.ask_used.specs.Totals.{below}
 use Rattle.ask_find.proofs.Reading.{from}
-use Rattle.ask_find.proofs.Spans.{span-end, span-out}
-use Rattle.ask_used.proofs.Totals.{slot-in, below-fits, below_end, below_out, turn, turn_one}
+use Rattle.ask_find.proofs.Spans.{span-end, span_out}
+use Rattle.ask_used.proofs.Totals.{slot_in, below-fits, below_end, below_out, turn, turn_one}
 use Prim.Native.Nat.{ℕ, ◌<◌}
 use borrow.Fn.Kinds.{In}
 use borrow.Fn.PlainCycle.{Measures, is, falls, and}
@@ -116,7 +116,7 @@ dir-total-returns : (t : ℕ) → dir-total-lts.Need-returns (
 dir-total-returns t c = let a = c.before.before.before.before.before.before.before.args in
     let l = c.before.before.before.before.loop in
     let p = c.before.before.before.before.before.before.before.requires.1 in
-    omega (arith, l.invariant.2, l.invariant.3, below_out a.records.now a.count p.0 a.heads.now a.d l.j c.before.before.before.loop-test.true (omega arith), span-out a.records.now a.count p.0 a.d l.j c.before.before.before.loop-test.true (omega arith))
+    omega (arith, l.invariant.2, l.invariant.3, below_out a.records.now a.count p.0 a.heads.now a.d l.j c.before.before.before.loop-test.true (omega arith), span_out a.records.now a.count p.0 a.d l.j c.before.before.before.loop-test.true (omega arith))
 
 -- src/lib.rt:191:12
 dir-total-is-leaf-requires : (t : ℕ) → dir-total-lts.Need-is-leaf-requires (
@@ -145,7 +145,7 @@ dir-total-entry-bytes-requires : (t : ℕ) → dir-total-lts.Need-entry-bytes-re
 dir-total-entry-bytes-requires t c κs = let a = c.before.before.before.before.before.before.before.before.before.args in
     let l = c.before.before.before.before.before.before.loop in
     let p = c.before.before.before.before.before.before.before.before.before.requires.1 in
-    slot-in a.records.now a.count p.0 a.heads.now l.j p.3 c.before.before.before.before.before.loop-test.true
+    slot_in a.records.now a.count p.0 a.heads.now l.j p.3 c.before.before.before.before.before.loop-test.true
 
 -- src/lib.rt:192:17
 dir-total-add-s : (t : ℕ) → dir-total-lts.Need-overflow-add-s (
@@ -322,7 +322,7 @@ entry-total-entry-bytes-requires : (t : ℕ) → entry-total-lts.Need-entry-byte
 entry-total-entry-bytes-requires t c κs =
     let a = c.before.before.before.args in
     let p = c.before.before.before.requires.1 in
-    slot-in a.records.now a.count p.0 a.heads.now a.i p.3 p.2
+    slot_in a.records.now a.count p.0 a.heads.now a.i p.3 p.2
 
 -- src/lib.rt:210:46
 entry-total-add-dir-total : (t : ℕ) → entry-total-lts.Need-overflow-add-dir-total (

@@ -9,7 +9,7 @@ use lib.ListN.{take, get_or}
 use Rattle.layout.specs.Fields.{kind_of}
 use Rattle.ask_used.specs.Totals.{head_of, link_total}
 use Rattle.ask_find.proofs.Reading.{from}
-use Rattle.ask_used.proofs.Totals.{slot-in, links_end, links-fit, links-on, links-off}
+use Rattle.ask_used.proofs.Totals.{slot_in, links_end, links-fit, links-on, links-off}
 use Rattle.ask_used.proofs.link_count.Statement.{statement}
 use Rattle.ask_used.proofs.link_count.Tie as tie
 
@@ -33,11 +33,11 @@ slot-of-requires c κs = search rules
 
 mul-kind-of : tie.Need-overflow-mul-kind-of invariant-loop decreases-loop
 mul-kind-of c = let a = c.before.before.before.before.before.before.args in
-    omega (arith, c.slot-of.ensures, slot-in a.records.now a.count c.before.before.before.before.before.before.requires.0 a.heads.now c.before.before.before.loop.j c.before.before.before.before.before.before.requires.1 c.before.before.loop-test.true)
+    omega (arith, c.slot-of.ensures, slot_in a.records.now a.count c.before.before.before.before.before.before.requires.0 a.heads.now c.before.before.before.loop.j c.before.before.before.before.before.before.requires.1 c.before.before.loop-test.true)
 
 shared-slice-read-kind-of : tie.Need-shared-slice-read-kind-of invariant-loop decreases-loop
 shared-slice-read-kind-of c = let a = c.before.before.before.before.before.before.before.args in
-    omega (arith, c.before.slot-of.ensures, slot-in a.records.now a.count c.before.before.before.before.before.before.before.requires.0 a.heads.now c.before.before.before.before.loop.j c.before.before.before.before.before.before.before.requires.1 c.before.before.before.loop-test.true)
+    omega (arith, c.before.slot-of.ensures, slot_in a.records.now a.count c.before.before.before.before.before.before.before.requires.0 a.heads.now c.before.before.before.before.loop.j c.before.before.before.before.before.before.before.requires.1 c.before.before.before.loop-test.true)
 
 kind-of-requires : tie.Need-kind-of-requires invariant-loop decreases-loop
 kind-of-requires c κs = search rules

@@ -2,7 +2,7 @@
 -- Assumes nothing.
 use native.Mathlib.Omega.{arith}
 use borrow.Author.Rules.{rules}
-use Rattle.edit_room.proofs.Resizing.{reserved-none, reserved-one}
+use Rattle.edit_room.proofs.Resizing.{reserved_none, reserved-one}
 use Rattle.edit_room.proofs.reserve.Statement.{statement}
 use Rattle.edit_room.proofs.reserve.Tie as tie
 
@@ -16,7 +16,7 @@ add-if1 : tie.Need-overflow-add-if1
 add-if1 c = search rules
 
 returns : tie.Need-returns
-returns c st l = let a = c.before.before.before.args in reserved-none a.words.now st.records a.heads.now st.times st.paths st.bytes l (omega (arith, c.if1.true))
+returns c st l = let a = c.before.before.before.args in reserved_none a.words.now st.records a.heads.now st.times st.paths st.bytes l (omega (arith, c.if1.true))
 
 mul-heads : tie.Need-overflow-mul-heads
 mul-heads c = search rules

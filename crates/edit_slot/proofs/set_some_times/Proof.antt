@@ -12,7 +12,7 @@ use Rattle.edit_slot.proofs.Altering.{slotted}
 use mir.Syntax.{w64}
 use mir.ValLaws.{to_z-of_z}
 use Rattle.edit_slot.specs.Times.{set_if, some_set}
-use Rattle.edit_slot.proofs.Metadata.{some-changes}
+use Rattle.edit_slot.proofs.Metadata.{some_changes}
 use borrow.Author.Rules.{rules}
 use Rattle.edit_slot.proofs.set_some_times.Statement.{statement}
 use Rattle.edit_slot.proofs.set_some_times.Tie as tie
@@ -44,7 +44,7 @@ returns c st l h =
     c.before.put-if2.ensures
     ∙ (λ z. set_if a.modify ((c.before.before.before.before.put_if.ensures ∙ (λ y. set_if a.access a.times.now (4 * a.slot) (to_z-of_z w64 a.a b.ranges.a y))) z) (4 * a.slot + 3) (to_z-of_z w64 a.t b.ranges.t z)) in
     subst (λ (ts : List ℤ). Changes (touch_some (given_if a.access a.a) (given_if a.modify a.t)) u (slotted u st.heads ts st.bytes) a.slot)
-    (sym e) (some-changes u l a.slot h a.access a.a a.modify a.t)
+    (sym e) (some_changes u l a.slot h a.access a.a a.modify a.t)
 
 pub set-some-times-spec : {M : Type 1} → statement M
 set-some-times-spec =

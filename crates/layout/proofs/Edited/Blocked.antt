@@ -19,10 +19,10 @@ use Rattle.model.proofs.Entries.{clash, look_none, look_past}
 use Rattle.layout.specs.Rows.{Row, path_by, path_of, tree_from}
 use Rattle.layout.specs.Lawful.{follows, walk_ok}
 use Rattle.layout.proofs.Rising.{before_both, Rises, Follows, aside, below, follows_by}
-use Rattle.layout.proofs.Walks.{At, look_at, at-rises, rest_ok}
+use Rattle.layout.proofs.Walks.{At, look_at, at_rises, rest_ok}
 use Rattle.layout.specs.Parts.{path_after, dir_after, Deeper, NotDeeper}
 use Rattle.layout.proofs.Edited.Parted.{walk_both, SameStart, MayStand}
-use Rattle.layout.proofs.Edited.Removing.{kept-names, follows-low, walk-follows, next-keeps, below-keeps, Beyond, beyond-rises, beyond-behind, beyond-aside, begins, walk-rises}
+use Rattle.layout.proofs.Edited.Removing.{kept-names, follows-low, walk-follows, next_keeps, below-keeps, Beyond, beyond-rises, beyond-behind, beyond-aside, begins, walk-rises}
 
 -- the name at a place of a path with one more behind
 get_d_kept : (d j : ℕ) (p : Path) (x : Name) → j < d → d ≤ length p → get_or (take d p ++ (x ∷ [])) j [] ≡ get_or p j []
@@ -105,8 +105,8 @@ module _ (kind : ℕ → ℕ) (n : ℕ) (p : Path) (e : Bool) (row : Row) (x b :
       go (r ∷ c) f = start-at r (first_next r c f)
 
   -- behind the entry, or first in its directory
-  stand-last : (k : Name) → Follows p e row.name (suc d) → T (precedes row.name k) → T (follows p e (suc d) k)
-  stand-last k f g = go (suc d) refl f
+  stand_last : (k : Name) → Follows p e row.name (suc d) → T (precedes row.name k) → T (follows p e (suc d) k)
+  stand_last k f g = go (suc d) refl f
     where
       go : (m : ℕ) → m ≡ suc d → Follows p e row.name m → T (follows p e (suc d) k)
       go m z (aside j y u) =
@@ -116,13 +116,13 @@ module _ (kind : ℕ → ℕ) (n : ℕ) (p : Path) (e : Bool) (row : Row) (x b :
           let w : d ≡ length p = omega arith in
           rw (le-ltb d (length p) (omega arith), eq-eqb d (length p) w, y) tt
 
-  stand-at : (r : Row) → Next r → T (follows p e r.depth r.name)
-  stand-at r y = rw y.deep (go (ℕ_discrete y.place d))
+  stand_at : (r : Row) → Next r → T (follows p e r.depth r.name)
+  stand_at r y = rw y.deep (go (ℕ_discrete y.place d))
     where
       go : Dec (y.place ≡ d) → T (follows p e (suc y.place) r.name)
       go (yes f) =
           subst (λ (k : ℕ). T (follows p e (suc k) r.name)) (sym f)
-          (stand-last r.name first (subst (λ (m : Name). T (precedes m r.name)) (ap (λ (k : ℕ). get_or at k []) f ∙ get_d_last d p row.name low) y.greater))
+          (stand_last r.name first (subst (λ (m : Name). T (precedes m r.name)) (ap (λ (k : ℕ). get_or at k []) f ∙ get_d_last d p row.name low) y.greater))
       go (no f) =
           rw (lt-ltb y.place (length p) (omega (arith, y.within, low, f)))
           (subst (λ (m : Name). T (precedes m r.name)) (get_d_kept d y.place p row.name (omega (arith, y.within, f)) low) y.greater)
@@ -132,12 +132,12 @@ module _ (kind : ℕ → ℕ) (n : ℕ) (p : Path) (e : Bool) (row : Row) (x b :
     where
       go : (c : List Row) → b ≡ c → MayStand p e c
       go [] f = tt
-      go (r ∷ c) f = stand-at r (first_next r c f)
+      go (r ∷ c) f = stand_at r (first_next r c f)
 
   -- ---- no other path begins with the entry's
 
-  beyond-at : (r : Row) → Next r → Beyond at (path_of end r)
-  beyond-at r y =
+  beyond_at : (r : Row) → Next r → Beyond at (path_of end r)
+  beyond_at r y =
       let f : take y.place end ≡ take y.place at = sym (take-take y.place (suc d) end (omega (arith, y.within))) ∙ ap (take y.place) end-keeps in
       rw y.deep (subst (λ (q : Path). Beyond at (q ++ (r.name ∷ []))) (sym f) (beyond-aside y.place at r.name (omega (arith, at_length, y.within)) y.greater))
 
@@ -146,10 +146,10 @@ module _ (kind : ℕ → ℕ) (n : ℕ) (p : Path) (e : Bool) (row : Row) (x b :
     where
       go : (c : List Row) → b ≡ c → At end c q r → Beyond at q
       go [] f z = absurd z
-      go (s ∷ c) f (inl z) = subst (Beyond at) z.0 (beyond-at s (first_next s c f))
+      go (s ∷ c) f (inl z) = subst (Beyond at) z.0 (beyond_at s (first_next s c f))
       go (s ∷ c) f (inr z) =
           let w = subst (λ (l : List Row). T (walk_ok kind n end (dir_after kind (eqb (kind row.slot) 1) x) l)) f behind-ok in
-          beyond-rises at (path_of end s) q (beyond-at s (first_next s c f)) (at-rises kind n (path_of end s) (eqb (kind s.slot) 1) c (rest_ok kind n end _ s c w) q r z)
+          beyond-rises at (path_of end s) q (beyond_at s (first_next s c f)) (at_rises kind n (path_of end s) (eqb (kind s.slot) 1) c (rest_ok kind n end _ s c w) q r z)
 
   pub behind_none : (f : ℕ → Node) (q r : Path) → behind at q ≡ some r → look (tree_from f end b) q ≡ none
   behind_none f q r h = go (look (tree_from f end b) q) refl
@@ -165,7 +165,7 @@ module _ (kind : ℕ → ℕ) (n : ℕ) (p : Path) (e : Bool) (row : Row) (x b :
   unfolding tree_from Deeper
   below_none f q h o g [] z y w = look_none q
   below_none f q h o g (r ∷ c) z y w =
-      let k : take (suc d) (path_of o r) ≡ at = next-keeps kind n (suc d) o g r r.depth refl y.0 (walk-follows kind n o g r c w) ∙ z in
+      let k : take (suc d) (path_of o r) ≡ at = next_keeps kind n (suc d) o g r r.depth refl y.0 (walk-follows kind n o g r c w) ∙ z in
       look_past (path_of o r, f r.slot) (tree_from f (path_of o r) c) q (λ u. begins at q (ap (λ (i : ℕ). take i q) at_length ∙ (ap (take (suc d)) (sym u) ∙ k)) h)
       ∙ below_none f q h (path_of o r) (eqb (kind r.slot) 1) c k y.1 (rest_ok kind n o g r c w)
 
@@ -195,6 +195,6 @@ module _ (kind : ℕ → ℕ) (n : ℕ) where
   before-rises p d [] row b t q r h = absurd h
   before-rises p d (s ∷ a) row b t q r (inl e) =
       subst (λ (o : Path). Rises o (path_of (path_after (path_of p s) a) row)) e.0
-      (at-rises kind n (path_of p s) (eqb (kind s.slot) 1) (a ++ (row ∷ b)) (rest_ok kind n p d s (a ++ (row ∷ b)) t) _ row (at_seam (path_of p s) a row b))
+      (at_rises kind n (path_of p s) (eqb (kind s.slot) 1) (a ++ (row ∷ b)) (rest_ok kind n p d s (a ++ (row ∷ b)) t) _ row (at_seam (path_of p s) a row b))
   before-rises p d (s ∷ a) row b t q r (inr h) =
       before-rises (path_of p s) (eqb (kind s.slot) 1) a row b (rest_ok kind n p d s (a ++ (row ∷ b)) t) q r h

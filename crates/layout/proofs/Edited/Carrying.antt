@@ -15,7 +15,7 @@ use Rattle.layout.specs.Rows.{Row, path_of, tree_from}
 use Rattle.layout.specs.Lawful.{walk_ok, rows_ok, uses}
 use Rattle.layout.specs.Parts.{path_after, Between, Deeper, NotDeeper, deepen}
 use Rattle.layout.proofs.Edited.Deepening.{walk-below, tree-below, uses-deepen}
-use Rattle.layout.proofs.Edited.Moving.{tree-block, rows-block, look_in, look-out}
+use Rattle.layout.proofs.Edited.Moving.{tree-block, rows-block, look_in, look_out}
 use Rattle.layout.proofs.Edited.Parted.{tree_both, uses_both}
 use Rattle.layout.proofs.Edited.Taking.{path-long, block-walk, block-tree, block-alone, look-cut, rows_cut}
 
@@ -52,17 +52,17 @@ module _ (kind : ℕ → ℕ) (n : ℕ) (root : Row) (a : List Row) (row : Row) 
   low-deep : Deeper (length new) low
   low-deep = deeper_still row.depth (length new) x dx
 
-  left-rows : T (rows_ok kind n (a₂ ++ b₂))
-  left-rows = subst (λ (r : List Row). T (rows_ok kind n r)) parts (rows_cut kind n root a row x b t dx nb)
+  left_rows : T (rows_ok kind n (a₂ ++ b₂))
+  left_rows = subst (λ (r : List Row). T (rows_ok kind n r)) parts (rows_cut kind n root a row x b t dx nb)
 
   -- the rows after the move
-  abbrev pub carriedRows : List Row
-  carriedRows = a₂ ++ (record { depth = suc (length q); name = y; slot = row.slot } ∷ (deepen row.depth (length (q ++ (y ∷ []))) x ++ b₂))
+  abbrev pub carried_rows : List Row
+  carried_rows = a₂ ++ (record { depth = suc (length q); name = y; slot = row.slot } ∷ (deepen row.depth (length (q ++ (y ∷ []))) x ++ b₂))
 
-  pub rows-carried : (a₂ ≡ [] → ⊥) → row.slot < n → T (name_ok y) → T (rows_ok kind n carriedRows)
-  rows-carried z h m = rows-block kind n a₂ b₂ q y g row.slot low low-deep low-walk z h m left-rows
+  pub rows-carried : (a₂ ≡ [] → ⊥) → row.slot < n → T (name_ok y) → T (rows_ok kind n carried_rows)
+  rows-carried z h m = rows-block kind n a₂ b₂ q y g row.slot low low-deep low-walk z h m left_rows
 
-  pub uses-carried : (k : ℕ) → uses k carriedRows ≡ uses k (root ∷ (a ++ (row ∷ (x ++ b))))
+  pub uses-carried : (k : ℕ) → uses k carried_rows ≡ uses k (root ∷ (a ++ (row ∷ (x ++ b))))
   unfolding uses
   uses-carried k =
       let c = uses_both k a₂ (record { depth = suc (length q); name = y; slot = row.slot } ∷ (low ++ b₂)) in
@@ -109,13 +109,13 @@ module _ (kind : ℕ → ℕ) (n : ℕ) (root : Row) (a : List Row) (row : Row) 
     left-tree o =
         ap (λ (s : Entries). look s o) (sym (tree_both f [] a₂ b₂) ∙ ap (tree_from f []) (sym parts)) ∙ look-cut kind n root a row x b t dx nb f o
 
-    new-tree : tree_from f [] carriedRows ≡ tree_from f [] a₂ ++ (graft new hand ++ tree_from f (path_after [] a₂) b₂)
+    new-tree : tree_from f [] carried_rows ≡ tree_from f [] a₂ ++ (graft new hand ++ tree_from f (path_after [] a₂) b₂)
     new-tree =
         tree-block kind n a₂ b₂ q y g row.slot low low-deep low-walk f
         ∙ ap (λ (s : Entries). tree_from f [] a₂ ++ (s ++ tree_from f (path_after [] a₂) b₂)) block_new
 
     pub look-carried : ((o r : Path) → behind new o ≡ some r → look (cut old full) o ≡ none) → (o : Path)
-        → look (tree_from f [] carriedRows) o ≡ look (graft new (under old full) ++ cut new (cut old full)) o
+        → look (tree_from f [] carried_rows) o ≡ look (graft new (under old full) ++ cut new (cut old full)) o
     look-carried clear o = ap (λ (s : Entries). look s o) new-tree ∙ go (behind new o) refl
       where
         empty : (o r : Path) → behind new o ≡ some r → look (tree_from f [] a₂ ++ tree_from f (path_after [] a₂) b₂) o ≡ none
@@ -123,4 +123,4 @@ module _ (kind : ℕ → ℕ) (n : ℕ) (root : Row) (a : List Row) (row : Row) 
 
         go : (m : Option Path) → behind new o ≡ m → look (tree_from f [] a₂ ++ (graft new hand ++ tree_from f (path_after [] a₂) b₂)) o ≡ look (graft new (under old full) ++ cut new (cut old full)) o
         go (some r) e = look_in new hand (tree_from f [] a₂) (tree_from f (path_after [] a₂) b₂) empty o r e ∙ (sym (in-hand r) ∙ sym (give_in new o r (under old full) (cut old full) e))
-        go none e = look-out new hand (tree_from f [] a₂) (tree_from f (path_after [] a₂) b₂) empty o e ∙ (left-tree o ∙ sym (give_out new o (under old full) (cut old full) e))
+        go none e = look_out new hand (tree_from f [] a₂) (tree_from f (path_after [] a₂) b₂) empty o e ∙ (left-tree o ∙ sym (give_out new o (under old full) (cut old full) e))

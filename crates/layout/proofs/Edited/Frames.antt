@@ -20,7 +20,7 @@ use Rattle.layout.specs.Store.{Store, most, room, count, extent, mask, here_leng
 use Rattle.layout.specs.Lawful.{rows_ok, uses, held_from, slot_by, slot_ok, kept_ok, number_ok, Exact, Lawful}
 use Rattle.layout.specs.Alike.{Spells}
 use Rattle.layout.proofs.Tables.{IsFile, file-found}
-use Rattle.layout.proofs.Entered.{has-file}
+use Rattle.layout.proofs.Entered.{has_file}
 use Rattle.layout.proofs.Edited.Telling.{same_alike}
 use Rattle.layout.proofs.Edited.Shapes.{lawful-shape}
 use Rattle.layout.proofs.Edited.Parted.{tree-slots, rows-slots}
@@ -41,11 +41,11 @@ module _ (st st' : Store) where
   -- what is left
   pub record Leaves : Type 0 where
     pub exact : Exact st'
-    pub mostSame : most st' ≡ most st
-    pub roomSame : room st' ≡ room st
-    pub countSame : count st' ≡ count st
-    pub extentSame : extent st' ≡ extent st
-    pub rowsSame : rows_of st' ≡ rows_of st
+    pub most_same : most st' ≡ most st
+    pub room_same : room st' ≡ room st
+    pub count_same : count st' ≡ count st
+    pub extent_same : extent st' ≡ extent st
+    pub rows_same : rows_of st' ≡ rows_of st
     pub space : name_total (live st') + total st'.heads ≤ room st
     pub slots : (i : ℕ) → After i
 
@@ -62,22 +62,22 @@ module _ (st st' : Store) where
     node_same : (i : ℕ) → SameSlot i → node_at st' i ≡ node_at st i
     node_same i s = λ j. node_by (kind_of (s.head j)) i (s.meta j) (s.bytes j)
 
-    pub same-tree : (state st').tree ≡ (state st).tree
-    same-tree =
-        ap (tree_from (node_at st') []) v.rowsSame
+    pub same_tree : (state st').tree ≡ (state st).tree
+    same_tree =
+        ap (tree_from (node_at st') []) v.rows_same
         ∙ tree-slots (node_at st') (node_at st) [] (rows_of st) (λ i u. node_same i (used-same i u))
 
     -- ---- the files
 
     same-heads : length st'.heads ≡ length st.heads
-    same-heads = omega (arith, v.exact.heads, l.exact.heads, v.extentSame)
+    same-heads = omega (arith, v.exact.heads, l.exact.heads, v.extent_same)
 
     file-before : (i : ℕ) (f : File) → file_of (state st').files i ≡ some f → file_of (state st).files i ≡ some f
     file-before i f e = go (file-found st' (length st'.heads) 0 i f e) (v.slots i)
       where
         same : IsFile st' (length st'.heads) 0 i f → SameSlot i → file_of (state st).files i ≡ some f
         same h s =
-            has-file st l i (omega (arith, h.high, same-heads)) (ap kind_of (sym s.head) ∙ h.kind)
+            has_file st l i (omega (arith, h.high, same-heads)) (ap kind_of (sym s.head) ∙ h.kind)
             ∙ ap some (sym (h.file ∙ (λ j. record { meta = s.meta j; bytes = s.bytes j })))
 
         go : IsFile st' (length st'.heads) 0 i f → After i → file_of (state st).files i ≡ some f
@@ -92,33 +92,33 @@ module _ (st st' : Store) where
       where
         go : After i → T (slot_ok st' i)
         go (stays s e) =
-            let x : slot_ok st' i ≡ slot_ok st i = λ j. slot_by (kind_of (s.head j)) (s.head j) (uses i (v.rowsSame j)) (e j) (s.bytes j) in
+            let x : slot_ok st' i ≡ slot_ok st i = λ j. slot_by (kind_of (s.head j)) (s.head j) (uses i (v.rows_same j)) (e j) (s.bytes j) in
             subst T (sym x) (l.slots i h)
         go (keeps s k n) =
             let a : kind_at st' i ≡ 2 = ap kind_of s.head ∙ k in
-            let b : uses i (rows_of st') ≡ 1 = ap (uses i) v.rowsSame ∙ n in
+            let b : uses i (rows_of st') ≡ 1 = ap (uses i) v.rows_same ∙ n in
             let x : slot_ok st' i ≡ true = λ j. slot_by (a j) (get_or st'.heads i 0) (b j) (held_from st' 32 0 i) (bytes_at st' i) in
             of_true x
         go (freed z n u) =
-            let b : uses i (rows_of st') ≡ 0 = ap (uses i) v.rowsSame ∙ n in
+            let b : uses i (rows_of st') ≡ 0 = ap (uses i) v.rows_same ∙ n in
             let x : slot_ok st' i ≡ true = λ j. slot_by (kind_of (z j)) (z j) (b j) (u j) (bytes_at st' i) in
             of_true x
 
     entries-after : T (rows_ok (kind_at st') (length st'.heads) (rows_of st'))
     entries-after =
         let x : rows_ok (kind_at st') (length st'.heads) (rows_of st') ≡ rows_ok (kind_at st') (length st.heads) (rows_of st) =
-        λ j. rows_ok (kind_at st') (same-heads j) (v.rowsSame j) in
+        λ j. rows_ok (kind_at st') (same-heads j) (v.rows_same j) in
         subst T (sym (x ∙ rows-slots (kind_at st') (kind_at st) (length st.heads) (rows_of st) (λ i u. ap kind_of (used-same i u).head))) l.entries
 
     pub left-lawful : ((n : ℕ) → n < 32 → T (number_ok st' n)) → T (kept_ok st' 0 (here_length st')) → mask st' < 2 ^ 32 → Lawful st'
     left-lawful n h m =
         record {
           exact = v.exact;
-          entry_limit = (omega (arith, l.entry_limit.0, v.mostSame), omega (arith, l.entry_limit.1, v.mostSame));
-          byte_limit = (omega (arith, l.byte_limit.0, v.roomSame), omega (arith, l.byte_limit.1, v.roomSame));
-          counted = omega (arith, l.counted, v.mostSame, v.countSame);
-          slotted = omega (arith, l.slotted, v.mostSame, v.extentSame);
-          space = omega (arith, v.space, v.roomSame);
+          entry_limit = (omega (arith, l.entry_limit.0, v.most_same), omega (arith, l.entry_limit.1, v.most_same));
+          byte_limit = (omega (arith, l.byte_limit.0, v.room_same), omega (arith, l.byte_limit.1, v.room_same));
+          counted = omega (arith, l.counted, v.most_same, v.count_same);
+          slotted = omega (arith, l.slotted, v.most_same, v.extent_same);
+          space = omega (arith, v.space, v.room_same);
           entries = entries-after;
           slots = λ i k. slot-after i (omega (arith, k, same-heads));
           numbers = n;
@@ -136,5 +136,5 @@ module _ (st st' : Store) where
           lawful = y;
           alike =
               same_alike (state st') (state st) (record { at = (state st).tree; hand = []; files = (state st).files; opens = os; here = p; mask = m })
-              (lawful-shape st' y) (λ a. ap (λ (t : Entries). look t a) same-tree) o (λ i f _ e. file-before i f e) q r (lawful-shape st l).paths v.mostSame v.roomSame;
+              (lawful-shape st' y) (λ a. ap (λ (t : Entries). look t a) same_tree) o (λ i f _ e. file-before i f e) q r (lawful-shape st l).paths v.most_same v.room_same;
         }

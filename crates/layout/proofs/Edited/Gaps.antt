@@ -34,18 +34,18 @@ apart_none (e ∷ s) t p n a =
     look_past e (s ++ t) p (λ z. middle-found s t p n (ap (look (s ++ ((p, n) ∷ t))) (sym z) ∙ a.0)) ∙ apart_none s t p n a.1
 
 module _ (kind : ℕ → ℕ) (n : ℕ) (a b : List Row) (q : Path) (x : Name) (g : Between kind a b q x) (f : ℕ → Node) (t : T (rows_ok kind n (a ++ b))) where
-  proper-none : (k : ℕ) → k < n → (a ≡ [] → ⊥) → T (name_ok x) → look (tree_from f [] (a ++ b)) (q ++ (x ∷ [])) ≡ none
-  proper-none k l z o =
+  proper_none : (k : ℕ) → k < n → (a ≡ [] → ⊥) → T (name_ok x) → look (tree_from f [] (a ++ b)) (q ++ (x ∷ [])) ≡ none
+  proper_none k l z o =
       ap (λ (u : Entries). look u (q ++ (x ∷ []))) (tree_both f [] a b)
       ∙ apart_none (tree_from f [] a) (tree_from f (path_after [] a) b) (q ++ (x ∷ [])) (f k)
       (subst Apart (tree-new kind a b q x g f k) (all_once kind n f (a ++ (record { depth = _; name = x; slot = k } ∷ b)) (rows_new kind a b q x g n k z l o t)))
 
-  pub gap-none : (k : ℕ) → k < n → (a ≡ [] → ⊥) → look (tree_from f [] (a ++ b)) (q ++ (x ∷ [])) ≡ none
+  pub gap_none : (k : ℕ) → k < n → (a ≡ [] → ⊥) → look (tree_from f [] (a ++ b)) (q ++ (x ∷ [])) ≡ none
   unfolding names_ok
-  gap-none k l z = go (look (tree_from f [] (a ++ b)) (q ++ (x ∷ []))) refl
+  gap_none k l z = go (look (tree_from f [] (a ++ b)) (q ++ (x ∷ []))) refl
     where
       go : (o : Option Node) → look (tree_from f [] (a ++ b)) (q ++ (x ∷ [])) ≡ o → look (tree_from f [] (a ++ b)) (q ++ (x ∷ [])) ≡ none
       go none e = e
       go (some m) e =
           let h = look_at f [] (a ++ b) (q ++ (x ∷ [])) m e in
-          proper-none k l z (and_left (name_ok x) _ (names_right q (x ∷ []) (all_named kind n (a ++ b) t (q ++ (x ∷ [])) h.0 h.1)))
+          proper_none k l z (and_left (name_ok x) _ (names_right q (x ∷ []) (all_named kind n (a ++ b) t (q ++ (x ∷ [])) h.0 h.1)))

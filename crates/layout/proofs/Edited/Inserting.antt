@@ -30,23 +30,23 @@ module _ (q e : Path) (keeps : take (length q) e ≡ q) where
   long : length q ≤ length e
   long = omega (arith, sym (length-take (length q) e) ∙ ap length keeps)
 
-  stand-by : (d : Bool) (k : ℕ) (x : Name) → Follows q false x k → T (follows e d k x)
-  stand-by d n x (aside k h t) =
+  stand_by : (d : Bool) (k : ℕ) (x : Name) → Follows q false x k → T (follows e d k x)
+  stand_by d n x (aside k h t) =
       let u : get_or q k [] ≡ get_or e k [] = ap (λ (o : Path). get_or o k []) (sym keeps) ∙ get_or-take (length q) e k [] h in
       by_follows e d (suc k) x (aside k (omega (arith, h, long)) (subst (λ (m : Name). T (precedes m x)) u t))
-  stand-by d n x (below z) = absurd (false≢true z)
+  stand_by d n x (below z) = absurd (false≢true z)
 
-  start-by : (k : ℕ) (x : Name) → Follows q false x k → path_by k q x ≡ path_by k e x
-  start-by n x (aside k h t) = ap (λ (o : Path). o ++ (x ∷ [])) (ap (take k) (sym keeps) ∙ take-take k (length q) e (omega arith))
-  start-by n x (below z) = absurd (false≢true z)
+  start_by : (k : ℕ) (x : Name) → Follows q false x k → path_by k q x ≡ path_by k e x
+  start_by n x (aside k h t) = ap (λ (o : Path). o ++ (x ∷ [])) (ap (take k) (sym keeps) ∙ take-take k (length q) e (omega arith))
+  start_by n x (below z) = absurd (false≢true z)
 
   pub stand-below : (d : Bool) (c : List Row) → Behind q c → MayStand e d c
   stand-below d [] h = tt
-  stand-below d (r ∷ c) h = stand-by d r.depth r.name (follows_by q false r.depth r.name h)
+  stand-below d (r ∷ c) h = stand_by d r.depth r.name (follows_by q false r.depth r.name h)
 
   pub start-below : (c : List Row) → Behind q c → SameStart q e c
   start-below [] h = tt
-  start-below (r ∷ c) h = start-by r.depth r.name (follows_by q false r.depth r.name h)
+  start-below (r ∷ c) h = start_by r.depth r.name (follows_by q false r.depth r.name h)
 
 -- the root has no name and is a directory
 pub root_is : (kind : ℕ → ℕ) (n : ℕ) (r : Row) → T (root_ok kind n r) → (r.depth ≡ 0) × (eqb (kind r.slot) 1 ≡ true)

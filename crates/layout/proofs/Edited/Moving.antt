@@ -102,7 +102,7 @@ module _ (p : Path) (h : Entries) (s t : Entries) (clear : (q r : Path) → behi
       or-none none = refl
       or-none (some m) = refl
 
-  pub look-out : (q : Path) → behind p q ≡ none → look (s ++ (graft p h ++ t)) q ≡ look (s ++ t) q
-  look-out q e =
+  pub look_out : (q : Path) → behind p q ≡ none → look (s ++ (graft p h ++ t)) q ≡ look (s ++ t) q
+  look_out q e =
       both_look s (graft p h ++ t) q
       ∙ (ap (or (look s q)) (both_look (graft p h) t q ∙ ap (λ (o : Option Node). or o (look t q)) (graft_out p q h e)) ∙ sym (both_look s t q))

@@ -19,13 +19,13 @@ use Rattle.model.proofs.Entries.{look-cons, behind-self, behind_is, under_look, 
 use Rattle.layout.specs.Rows.{Row, path_of, tree_from}
 use Rattle.layout.specs.Lawful.{follows, walk_ok, rows_ok, uses}
 use Rattle.layout.specs.Parts.{path_after, dir_after, Behind, Between, Deeper, NotDeeper, deepen}
-use Rattle.layout.proofs.Roots.{root-of}
-use Rattle.layout.proofs.Walks.{first-ok}
+use Rattle.layout.proofs.Roots.{root_of}
+use Rattle.layout.proofs.Walks.{first_ok}
 use Rattle.layout.proofs.Edited.Blocked.{at_path, at_length, first_next}
 use Rattle.layout.proofs.Edited.Carrying.{deeper_still}
 use Rattle.layout.proofs.Edited.Deepening.{walk-below, tree-below, uses-deepen}
 use Rattle.layout.proofs.Edited.Inserting.{stand-below, tree-new, rows_new, look-new}
-use Rattle.layout.proofs.Edited.Moving.{tree-block, rows-block, look_in, look-out}
+use Rattle.layout.proofs.Edited.Moving.{tree-block, rows-block, look_in, look_out}
 use Rattle.layout.proofs.Edited.Parted.{tree_both, uses_both, after_both, dir_both, walk-second}
 use Rattle.layout.proofs.Edited.Removing.{walk-follows}
 use Rattle.layout.proofs.Edited.Taking.{one_deep, block-walk, block-tree, block-alone, look-cut, rows_cut}
@@ -89,16 +89,16 @@ module _ (kind : ℕ → ℕ) (n : ℕ) (root : Row) (a : List Row) (row : Row) 
 
   same_up : up ≡ path_after [] a
   unfolding path_after
-  same_up = ap (λ (p : Path). path_after p a) (root-of kind n root (a ++ (row ∷ (x ++ b))) t).path
+  same_up = ap (λ (p : Path). path_after p a) (root_of kind n root (a ++ (row ∷ (x ++ b))) t).path
 
   nest-path : path_of (path_after [] a) row ≡ at
   nest-path = ap (λ (p : Path). path_of p row) (sym same_up) ∙ at_path kind n up is_dir row x b d deep.1 dx' nb' block
 
   name-ok : T (name_ok row.name)
-  name-ok = and_left (name_ok row.name) _ (and_right (ltb row.slot n) _ (first-ok kind n up is_dir row (x ++ b) block))
+  name-ok = and_left (name_ok row.name) _ (and_right (ltb row.slot n) _ (first_ok kind n up is_dir row (x ++ b) block))
 
   slot-low : row.slot < n
-  slot-low = ltb→lt row.slot n (and_left (ltb row.slot n) _ (first-ok kind n up is_dir row (x ++ b) block))
+  slot-low = ltb→lt row.slot n (and_left (ltb row.slot n) _ (first_ok kind n up is_dir row (x ++ b) block))
 
   -- its place once it is out
   gap : Between kind (root ∷ a) b inside row.name
@@ -174,13 +174,13 @@ module _ (kind : ℕ → ℕ) (n : ℕ) (root : Row) (a : List Row) (row : Row) 
     abbrev moved : Row
     moved = record { depth = suc (length at); name = y; slot = row.slot }
 
-    abbrev nestedRows : List Row
-    nestedRows = root ∷ (a ++ (fresh ∷ (moved ∷ (low ++ b))))
+    abbrev nested_rows : List Row
+    nested_rows = root ∷ (a ++ (fresh ∷ (moved ∷ (low ++ b))))
 
     to-long : length to ≡ suc row.depth
     to-long = let e : length to ≡ length at + 1 = length-append at (y ∷ []) in omega (arith, e, depth_is)
 
-    plain : nestedRows ≡ lowered root a row x b s y
+    plain : nested_rows ≡ lowered root a row x b s y
     plain =
         let e : suc (length inside) ≡ row.depth = ap suc inside-long ∙ sym deep.1 in
         let f : length at ≡ row.depth = sym depth_is in
@@ -254,7 +254,7 @@ module _ (kind : ℕ → ℕ) (n : ℕ) (root : Row) (a : List Row) (row : Row) 
           ∙ ap (λ (e : Entries). (([], f root.slot) ∷ tree_from f [] a) ++ (e ++ tree_from f (path_after [] a) b)) (ap (λ (p : Path). (p, f row.slot) ∷ tree_from f p x) nest-path ∙ block-old))
           ∙ look_in at hand (([], f root.slot) ∷ tree_from f [] a) (tree_from f (path_after [] a) b) alone (at ++ r) r (behind-self at r))
 
-      new-tree : tree_from f [] nestedRows ≡ tree_from f [] front ++ (graft to hand ++ tree_from f (path_after [] front) b)
+      new-tree : tree_from f [] nested_rows ≡ tree_from f [] front ++ (graft to hand ++ tree_from f (path_after [] front) b)
       new-tree =
           ap (tree_from f []) (sym (joined (moved ∷ (low ++ b))))
           ∙ (tree-block kind n front b at y first-gap row.slot low low-deep low-walk f ∙ ap (λ (e : Entries). tree_from f [] front ++ (e ++ tree_from f (path_after [] front) b)) block_new)
@@ -266,7 +266,7 @@ module _ (kind : ℕ → ℕ) (n : ℕ) (root : Row) (a : List Row) (row : Row) 
           let l : length o ≡ length at + suc (length r) = ap length i ∙ length-append at (y ∷ r) in
           put_past at o (f s) (cut at full) (λ q. omega (arith, ap length q, l)) ∙ cut_in at o (y ∷ r) full (ap (behind at) i ∙ behind-self at (y ∷ r))
 
-      look-nested : (o : Path) → look (tree_from f [] nestedRows) o ≡ look (graft to (under at full) ++ cut to made) o
+      look-nested : (o : Path) → look (tree_from f [] nested_rows) o ≡ look (graft to (under at full) ++ cut to made) o
       look-nested o = ap (λ (e : Entries). look e o) new-tree ∙ go (behind to o) refl
         where
           empty : (o r : Path) → behind to o ≡ some r → look (tree_from f [] front ++ tree_from f (path_after [] front) b) o ≡ none
@@ -274,7 +274,7 @@ module _ (kind : ℕ → ℕ) (n : ℕ) (root : Row) (a : List Row) (row : Row) 
 
           go : (m : Option Path) → behind to o ≡ m → look (tree_from f [] front ++ (graft to hand ++ tree_from f (path_after [] front) b)) o ≡ look (graft to (under at full) ++ cut to made) o
           go (some r) e = look_in to hand (tree_from f [] front) (tree_from f (path_after [] front) b) empty o r e ∙ (sym (in-hand r) ∙ sym (give_in to o r (under at full) made e))
-          go none e = look-out to hand (tree_from f [] front) (tree_from f (path_after [] front) b) empty o e ∙ (left-tree o ∙ sym (give_out to o (under at full) made e))
+          go none e = look_out to hand (tree_from f [] front) (tree_from f (path_after [] front) b) empty o e ∙ (left-tree o ∙ sym (give_out to o (under at full) made e))
 
       -- the same by the path of the entry
       abbrev from : Path
@@ -284,4 +284,4 @@ module _ (kind : ℕ → ℕ) (n : ℕ) (root : Row) (a : List Row) (row : Row) 
           ≡ look (graft (from ++ (y ∷ [])) (under from full) ++ cut (from ++ (y ∷ [])) (put from (f s) (cut from full))) o
       look-lowered o =
           ap (λ (r : List Row). look (tree_from f [] r) o) (sym plain)
-          ∙ subst (λ (p : Path). look (tree_from f [] nestedRows) o ≡ look (graft (p ++ (y ∷ [])) (under p full) ++ cut (p ++ (y ∷ [])) (put p (f s) (cut p full))) o) (sym nest-path) (look-nested o)
+          ∙ subst (λ (p : Path). look (tree_from f [] nested_rows) o ≡ look (graft (p ++ (y ∷ [])) (under p full) ++ cut (p ++ (y ∷ [])) (put p (f s) (cut p full))) o) (sym nest-path) (look-nested o)

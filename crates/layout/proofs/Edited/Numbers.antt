@@ -71,8 +71,8 @@ module _ (st st' : Store) where
         λ j. keep_if (not (eqb (x j) 0)) (record { num = i; id = x j - 1; pos = y j; kept = names (take (z j) (drop (1024 * suc i) (e j))) }) (opens-from c (suc i) (omega arith) j)
 
     -- the words of the numbers and the kept paths are as they were
-    pub opens-same : opens_from st' 32 0 ≡ opens_from st 32 0
-    opens-same = opens-from 32 0 (omega arith)
+    pub opens_same : opens_from st' 32 0 ≡ opens_from st 32 0
+    opens_same = opens-from 32 0 (omega arith)
 
   -- where no word is changed
   module _ (w : st'.words ≡ st.words) where
@@ -80,7 +80,7 @@ module _ (st st' : Store) where
     held_kept c i k = held_same k (λ j. ap (λ (ws : List ℕ). eqb (get_or ws (5 + 3 * j) 0) (suc k)) w) c i
 
     pub opens_kept : st'.paths ≡ st.paths → opens_from st' 32 0 ≡ opens_from st 32 0
-    opens_kept = opens-same (λ i l h. ap (λ (ws : List ℕ). get_or ws i 0) w)
+    opens_kept = opens_same (λ i l h. ap (λ (ws : List ℕ). get_or ws i 0) w)
 
   -- one number: what F makes of the list with it is what F makes of the rest, with what it became
   abbrev pub Turn : (List Open → List Open) → ℕ → Type 0

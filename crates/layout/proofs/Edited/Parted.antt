@@ -13,7 +13,7 @@ use Rattle.model.specs.Tree.{Path, Node, Entries}
 use Rattle.model.specs.Rules.{name_ok}
 use Rattle.layout.specs.Rows.{Row, path_of, tree_from}
 use Rattle.layout.specs.Lawful.{follows, entry_ok, walk_ok, rows_ok, uses}
-use Rattle.layout.proofs.Roots.{root-of}
+use Rattle.layout.proofs.Roots.{root_of}
 use Rattle.layout.specs.Parts.{path_after, dir_after}
 
 -- ---- in two parts
@@ -38,7 +38,7 @@ walk_both kind n p d (r ∷ a) b =
 pub walk-second : (kind : ℕ → ℕ) (n : ℕ) (r : Row) (a b : List Row) → T (rows_ok kind n (r ∷ (a ++ b))) → T (walk_ok kind n (path_after [] (r ∷ a)) (dir_after kind false (r ∷ a)) b)
 unfolding path_after dir_after
 walk-second kind n r a b t =
-    let o = root-of kind n r (a ++ b) t in
+    let o = root_of kind n r (a ++ b) t in
     let w = and_right (walk_ok kind n [] true a) _ (subst T (walk_both kind n [] true a b) o.rest) in
     subst (λ (p : Path). T (walk_ok kind n (path_after p a) (dir_after kind (eqb (kind r.slot) 1) a) b)) (sym o.path)
     (subst (λ (d : Bool). T (walk_ok kind n (path_after [] a) (dir_after kind d a) b)) (sym (eq-eqb (kind r.slot) 1 o.is_dir)) w)

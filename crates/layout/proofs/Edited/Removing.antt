@@ -19,7 +19,7 @@ use Rattle.layout.specs.Rows.{Row, path_by, path_of}
 use Rattle.layout.specs.Lawful.{follows, walk_ok}
 use Rattle.model.proofs.Entries.{clash, is_false, behind-self}
 use Rattle.layout.proofs.Rising.{before_self, before_both, Rises, Follows, aside, below, follows_by}
-use Rattle.layout.proofs.Walks.{first-ok, rest_ok}
+use Rattle.layout.proofs.Walks.{first_ok, rest_ok}
 use Rattle.layout.specs.Parts.{path_after, Deeper}
 
 -- ---- what lies below keeps the names
@@ -39,22 +39,22 @@ follows-low p d k x t = go (suc k) refl (follows_by p d (suc k) x t)
 
 module _ (kind : ℕ → ℕ) (n : ℕ) where
   pub walk-follows : (p : Path) (d : Bool) (r : Row) (rs : List Row) → T (walk_ok kind n p d (r ∷ rs)) → T (follows p d r.depth r.name)
-  walk-follows p d r rs t = and_right (name_ok r.name) _ (and_right (ltb r.slot n) _ (first-ok kind n p d r rs t))
+  walk-follows p d r rs t = and_right (name_ok r.name) _ (and_right (ltb r.slot n) _ (first_ok kind n p d r rs t))
 
   pub walk-rises : (p : Path) (d : Bool) (r : Row) (rs : List Row) → T (walk_ok kind n p d (r ∷ rs)) → Follows p d r.name r.depth
   walk-rises p d r rs t = follows_by p d r.depth r.name (walk-follows p d r rs t)
 
   -- one entry deeper than m names keeps the first m
-  pub next-keeps : (m : ℕ) (p : Path) (d : Bool) (r : Row) (k : ℕ) → r.depth ≡ k → m < k → T (follows p d k r.name) → take m (path_by k p r.name) ≡ take m p
-  next-keeps m p d r zero e h t = absurd (omega arith)
-  next-keeps m p d r (suc k) e h t = kept-names m k p r.name (omega arith) (follows-low p d k r.name t)
+  pub next_keeps : (m : ℕ) (p : Path) (d : Bool) (r : Row) (k : ℕ) → r.depth ≡ k → m < k → T (follows p d k r.name) → take m (path_by k p r.name) ≡ take m p
+  next_keeps m p d r zero e h t = absurd (omega arith)
+  next_keeps m p d r (suc k) e h t = kept-names m k p r.name (omega arith) (follows-low p d k r.name t)
 
   pub below-keeps : (m : ℕ) (p : Path) (d : Bool) (rs : List Row) → Deeper m rs → T (walk_ok kind n p d rs) → take m (path_after p rs) ≡ take m p
   unfolding path_after Deeper
   below-keeps m p d [] h t = refl
   below-keeps m p d (r ∷ rs) h t =
       below-keeps m (path_of p r) (eqb (kind r.slot) 1) rs h.1 (rest_ok kind n p d r rs t)
-      ∙ next-keeps m p d r r.depth refl h.0 (walk-follows p d r rs t)
+      ∙ next_keeps m p d r r.depth refl h.0 (walk-follows p d r rs t)
 
 -- ---- paths beyond
 

@@ -11,10 +11,10 @@ use Rattle.model.proofs.Demand.OverEdits.{dir_no_file, link_no_file}
 use Rattle.model.specs.Shaped.{HasFile, Shaped}
 use Rattle.layout.specs.Store.{Store, holder, rows_of, meta_at, bytes_at, kind_at, node_at, state}
 use Rattle.layout.specs.Lawful.{uses, Lawful}
-use Rattle.layout.proofs.Entered.{slot, has-file, entry, one_name_lem, file-slot, file-used, stood}
+use Rattle.layout.proofs.Entered.{slot, has_file, entry, one_name_lem, file-slot, file-used, stood}
 use Rattle.layout.proofs.Roots.{all_once}
 use Rattle.layout.proofs.Slotted.{SlotOf, free, directory, named, removed, target, dir_at, link_at}
-use Rattle.layout.proofs.Tables.{fileAt, file-found, files-once, open-found, opens-once}
+use Rattle.layout.proofs.Tables.{file_at, file-found, files-once, open-found, opens-once}
 
 module _ (st : Store) (l : Lawful st) where
   -- the slot of an entry that is a file is of that kind
@@ -31,14 +31,14 @@ module _ (st : Store) (l : Lawful st) where
       let k = a.row.slot in
       let s = slot st l k a.low in
       let c = file-slot st l k i a.used s a.node in
-      subst (HasFile (state st).files) c.0 (fileAt st k, has-file st l k a.low (kind-file k i a.used s a.node))
+      subst (HasFile (state st).files) c.0 (file_at st k, has_file st l k a.low (kind-file k i a.used s a.node))
 
   number-file : (n : ℕ) (o : Open) → open_of (state st).opens n ≡ some o → HasFile (state st).files o.id
   number-file n o e =
       let h = open-found st 32 0 n o e in
       let a = stood st l n (omega arith) h.holds in
       let k = holder st n - 1 in
-      subst (λ (b : Open). HasFile (state st).files b.id) (sym h.number) (fileAt st k, has-file st l k (omega (arith, a.one, a.low)) a.kind)
+      subst (λ (b : Open). HasFile (state st).files b.id) (sym h.number) (file_at st k, has_file st l k (omega (arith, a.one, a.low)) a.kind)
 
   pub lawful-shape : Shaped (state st)
   lawful-shape =

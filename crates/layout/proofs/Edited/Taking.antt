@@ -35,9 +35,9 @@ root_none (y ∷ p) x = refl
 
 module _ (kind : ℕ → ℕ) (n : ℕ) (root : Row) (a : List Row) (row : Row) (x b : List Row) (t : T (rows_ok kind n (root ∷ (a ++ (row ∷ (x ++ b))))))
     (dx : Deeper row.depth x) (nb : NotDeeper row.depth b) where
-  is-root : T (root_ok kind n root)
+  is_root : T (root_ok kind n root)
   unfolding rows_ok
-  is-root = and_left (root_ok kind n root) _ t
+  is_root = and_left (root_ok kind n root) _ t
 
   walk : T (walk_ok kind n [] true (a ++ (row ∷ (x ++ b))))
   unfolding rows_ok
@@ -77,7 +77,7 @@ module _ (kind : ℕ → ℕ) (n : ℕ) (root : Row) (a : List Row) (row : Row) 
   pub rows_cut : T (rows_ok kind n (root ∷ (a ++ b)))
   unfolding rows_ok
   rows_cut =
-      and_both (root_ok kind n root) _ is-root
+      and_both (root_ok kind n root) _ is_root
       (subst T (sym (walk_both kind n [] true a b))
       (and_both (walk_ok kind n [] true a) _ first_part
       (walk_start kind n _ up _ is_dir b (same_back up _ b (behind-start kind n up is_dir row x b d deep.1 dx' nb' block)) (behind-stand kind n up is_dir row x b d deep.1 dx' nb' block)
@@ -95,7 +95,7 @@ module _ (kind : ℕ → ℕ) (n : ℕ) (root : Row) (a : List Row) (row : Row) 
 
     root-tree : (c : List Row) → tree_from f [] (root ∷ c) ≡ ([], f root.slot) ∷ tree_from f [] c
     unfolding tree_from
-    root-tree c = ap (λ (k : ℕ). (path_by k [] root.name, f root.slot) ∷ tree_from f (path_by k [] root.name) c) (root_is kind n root is-root).0
+    root-tree c = ap (λ (k : ℕ). (path_by k [] root.name, f root.slot) ∷ tree_from f (path_by k [] root.name) c) (root_is kind n root is_root).0
 
     behind-tree : tree_from f (path_after taken x) b ≡ tb
     behind-tree = sym (tree-start f up (path_after taken x) b (behind-start kind n up is_dir row x b d deep.1 dx' nb' block))
@@ -148,19 +148,19 @@ module _ (kind : ℕ → ℕ) (n : ℕ) (root : Row) (a : List Row) (row : Row) 
 
   -- ---- the block itself, by the path of its entry
 
-  abbrev pub entryPath : Path
-  entryPath = path_of (path_after [] a) row
+  abbrev pub entry_path : Path
+  entry_path = path_of (path_after [] a) row
 
-  pub path-long : length entryPath ≡ row.depth
+  pub path-long : length entry_path ≡ row.depth
   path-long = ap length taken-path ∙ (at_length kind n up is_dir row x b d deep.1 dx' nb' block ∙ sym deep.1)
 
-  pub block-walk : T (walk_ok kind n entryPath (eqb (kind row.slot) 1) x)
+  pub block-walk : T (walk_ok kind n entry_path (eqb (kind row.slot) 1) x)
   block-walk =
       subst (λ (o : Path). T (walk_ok kind n o (eqb (kind row.slot) 1) x)) (sym taken-path) (below-ok kind n up is_dir row x b d deep.1 dx' nb' block)
 
   pub block-tree : (f : ℕ → Node) → tree_from f [] (root ∷ (a ++ (row ∷ (x ++ b))))
-      ≡ (([], f root.slot) ∷ tree_from f [] a) ++ (((entryPath, f row.slot) ∷ tree_from f entryPath x) ++ tree_from f (path_after [] a) b)
+      ≡ (([], f root.slot) ∷ tree_from f [] a) ++ (((entry_path, f row.slot) ∷ tree_from f entry_path x) ++ tree_from f (path_after [] a) b)
   block-tree f = whole f ∙ ap (λ (o : Path). ([], f root.slot) ∷ (tree_from f [] a ++ (((o, f row.slot) ∷ tree_from f o x) ++ tree_from f up b))) (sym taken-path)
 
-  pub block-alone : (f : ℕ → Node) (q r : Path) → behind entryPath q ≡ some r → look ((([], f root.slot) ∷ tree_from f [] a) ++ tree_from f (path_after [] a) b) q ≡ none
+  pub block-alone : (f : ℕ → Node) (q r : Path) → behind entry_path q ≡ some r → look ((([], f root.slot) ∷ tree_from f [] a) ++ tree_from f (path_after [] a) b) q ≡ none
   block-alone f q r h = gone f q r (ap (λ (o : Path). behind o q) (sym taken-path) ∙ h)

@@ -59,15 +59,15 @@ module _ (ρ : ℕ → ℕ) (s u : State) (w : World) (x : Shaped s) (m : Matche
   held-lives n o e = or_right (is_named w.at o.id) (is_held w.opens o.id) (by_held w.opens n o e)
 
   -- the file that both have
-  kept-too : (i : ℕ) (f : File) → T (lives w i) → file_of s.files (ρ i) ≡ some f → file_of (state_of u w).files i ≡ some f
-  kept-too i f l e = kept-file w.at w.opens w.files i l ∙ m.files i f l e
+  kept_too : (i : ℕ) (f : File) → T (lives w i) → file_of s.files (ρ i) ≡ some f → file_of (state_of u w).files i ≡ some f
+  kept_too i f l e = kept-file w.at w.opens w.files i l ∙ m.files i f l e
 
   shown-file : (p : Path) (i : ℕ) → look w.at p ≡ some (file i)
       → on_some (some (file (ρ i))) (shown_node s) ≡ on_some (some (file i)) (shown_node (state_of u w))
   unfolding shown_node
   shown-file p i e =
       let h = x.nodes p (ρ i) (m.entries p ∙ ap (renode ρ) e) in
-      rw (h.1, kept-too i h.0 (named-lives p i e) h.1) refl
+      rw (h.1, kept_too i h.0 (named-lives p i e) h.1) refl
 
   shown_by : (p : Path) (o : Option Node) → look w.at p ≡ o
       → on_some (renode ρ o) (shown_node s) ≡ on_some o (shown_node (state_of u w))
@@ -77,13 +77,13 @@ module _ (ρ : ℕ → ℕ) (s u : State) (w : World) (x : Shaped s) (m : Matche
   shown_by p (some (file i)) e = shown-file p i e
   shown_by p (some (link k t)) e = refl
 
-  same-shown : (p : Path) → shown s p ≡ shown (state_of u w) p
+  same_shown : (p : Path) → shown s p ≡ shown (state_of u w) p
   unfolding shown
-  same-shown p = ap (λ (o : Option Node). on_some o (shown_node s)) (m.entries p) ∙ shown_by p (look w.at p) refl
+  same_shown p = ap (λ (o : Option Node). on_some o (shown_node s)) (m.entries p) ∙ shown_by p (look w.at p) refl
 
-  same-position : (n : ℕ) → position_of s n ≡ position_of (state_of u w) n
+  same_position : (n : ℕ) → position_of s n ≡ position_of (state_of u w) n
   unfolding position_of answer
-  same-position n = rw (m.opens n) (go (open_of w.opens n))
+  same_position n = rw (m.opens n) (go (open_of w.opens n))
     where
       go : (o : Option Open) → on_some {B = Position} (reopen ρ o) (λ o. some (record { pos = o.pos; kept = o.kept })) ≡ on_some {B = Position} o (λ o. some (record { pos = o.pos; kept = o.kept }))
       go none = refl
@@ -112,7 +112,7 @@ module _ (ρ : ℕ → ℕ) (s u : State) (w : World) (x : Shaped s) (m : Matche
       let l = held-lives n o e in
       let h = x.stands n _ q in
       let gone : is_named s.tree i ≡ false = is_false (is_named s.tree i) (λ y. let a = named_at s.tree x.paths i y in false≢true (sym t ∙ is_true (is_named w.at o.id) (name_back o.id l a.0 (look w.at a.0) refl (sym (m.entries a.0) ∙ a.1)))) in
-      (h.0, record { held = record { num = o.num; id = i; pos = o.pos; kept = o.kept }; is_open = q; no_name = gone; is_file = h.1 }, record { held = o; is_open = e; no_name = t; is_file = kept-too o.id h.0 l h.1 })
+      (h.0, record { held = record { num = o.num; id = i; pos = o.pos; kept = o.kept }; is_open = q; no_name = gone; is_file = h.1 }, record { held = o; is_open = e; no_name = t; is_file = kept_too o.id h.0 l h.1 })
 
   abbrev Stood : ℕ → Type 0
   Stood n = ((p : Path) × StandsAt s n p × StandsAt (state_of u w) n p) ⊎ ((f : File) × StandsRemoved s n f × StandsRemoved (state_of u w) n f)
@@ -132,34 +132,34 @@ module _ (ρ : ℕ → ℕ) (s u : State) (w : World) (x : Shaped s) (m : Matche
       go (yes e) = eq-eqb (ρ i) (ρ j) (ap ρ e) ∙ sym (eq-eqb i j e)
       go (no k) = ne_eqb (ρ i) (ρ j) (λ e. k (m.one i j a b e)) ∙ sym (ne_eqb i j k)
 
-  shared-by : (n k : ℕ) (o a : Option Open) → open_of w.opens n ≡ o → open_of w.opens k ≡ a → same_id (reopen ρ o) (reopen ρ a) ≡ same_id o a
-  shared-by n k none a e f = refl
-  shared-by n k (some o) none e f = refl
-  shared-by n k (some o) (some a) e f = same_id_lem o.id a.id (held-lives n o e) (held-lives k a f)
+  shared_by : (n k : ℕ) (o a : Option Open) → open_of w.opens n ≡ o → open_of w.opens k ≡ a → same_id (reopen ρ o) (reopen ρ a) ≡ same_id o a
+  shared_by n k none a e f = refl
+  shared_by n k (some o) none e f = refl
+  shared_by n k (some o) (some a) e f = same_id_lem o.id a.id (held-lives n o e) (held-lives k a f)
 
-  same-share : (n k : ℕ) → share s n k ≡ share (state_of u w) n k
+  same_share : (n k : ℕ) → share s n k ≡ share (state_of u w) n k
   unfolding share
-  same-share n k = rw (m.opens n, m.opens k) (shared-by n k (open_of w.opens n) (open_of w.opens k) refl refl)
+  same_share n k = rw (m.opens n, m.opens k) (shared_by n k (open_of w.opens n) (open_of w.opens k) refl refl)
 
-  files-by : (p q : Path) (a b : Option Node) → look w.at p ≡ a → look w.at q ≡ b → same_file (renode ρ a) (renode ρ b) ≡ same_file a b
-  files-by p q none b e f = refl
-  files-by p q (some (dir d)) b e f = refl
-  files-by p q (some (link d t)) b e f = refl
-  files-by p q (some (file i)) none e f = refl
-  files-by p q (some (file i)) (some (dir d)) e f = refl
-  files-by p q (some (file i)) (some (link d t)) e f = refl
-  files-by p q (some (file i)) (some (file j)) e f = same_id_lem i j (named-lives p i e) (named-lives q j f)
+  files_by : (p q : Path) (a b : Option Node) → look w.at p ≡ a → look w.at q ≡ b → same_file (renode ρ a) (renode ρ b) ≡ same_file a b
+  files_by p q none b e f = refl
+  files_by p q (some (dir d)) b e f = refl
+  files_by p q (some (link d t)) b e f = refl
+  files_by p q (some (file i)) none e f = refl
+  files_by p q (some (file i)) (some (dir d)) e f = refl
+  files_by p q (some (file i)) (some (link d t)) e f = refl
+  files_by p q (some (file i)) (some (file j)) e f = same_id_lem i j (named-lives p i e) (named-lives q j f)
 
   same_files : (p q : Path) → one_file s p q ≡ one_file (state_of u w) p q
   unfolding one_file
-  same_files p q = rw (m.entries p, m.entries q) (files-by p q (look w.at p) (look w.at q) refl refl)
+  same_files p q = rw (m.entries p, m.entries q) (files_by p q (look w.at p) (look w.at q) refl refl)
 
   pub matches-alike : s.most ≡ u.most → s.room ≡ u.room → Alike s (state_of u w)
   matches-alike a b =
       record {
-        entries = same-shown;
+        entries = same_shown;
         names = same_files;
-        opens = record { position = same-position; on_file = λ n o e. on-file n o e (open_of w.opens n) refl; sharing = same-share };
+        opens = record { position = same_position; on_file = λ n o e. on-file n o e (open_of w.opens n) refl; sharing = same_share };
         current = m.current;
         umask = m.umask;
         entry_limit = a;

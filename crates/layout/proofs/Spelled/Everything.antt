@@ -27,7 +27,7 @@ use Rattle.layout.specs.Store.{Store, holder, position, kept_length, cell, state
 use Rattle.layout.specs.Lawful.{Sized, Lawful}
 use Rattle.layout.proofs.Obeying.{lawful-obeys}
 use Rattle.layout.proofs.Tables.{open-found, open_there}
-use Rattle.layout.proofs.Spelled.Housing.{home-own}
+use Rattle.layout.proofs.Spelled.Housing.{home_own}
 use Rattle.layout.proofs.Spelled.Items.{home}
 use Rattle.layout.proofs.Spelled.Lawing.{file-back, spell-lawful}
 use Rattle.layout.proofs.Spelled.Ordered.{sorted, sorted-obeys, sorted-ascends, alike-sorted}
@@ -35,7 +35,7 @@ use Rattle.layout.proofs.Spelled.Placing.{placed, tree-back}
 use Rattle.layout.proofs.Spelled.Sizing.{record-words, path-cells, spell-sized}
 use Rattle.layout.proofs.Spelled.Slotting.{path-short, path-back}
 use Rattle.layout.proofs.Climbing.{Ascends}
-use Rattle.layout.proofs.Spelled.Stored.{holderBy, positionBy, spell, most-back, room_back, mask-back, here_back, holder-back, position-back, kept_back, text-back}
+use Rattle.layout.proofs.Spelled.Stored.{holder_by, position_by, spell, most_back, room_back, mask-back, here_back, holder-back, position-back, kept_back, text-back}
 use Rattle.layout.proofs.Spelled.Tracing.{renamed}
 use Rattle.layout.proofs.Spelled.Written.{kept_text, text_of}
 
@@ -72,9 +72,9 @@ module _ (s : State) (o : Obeys s) (a : Ascends s.tree) where
   node-shown (file j) h =
       ap (λ (x : Option File). on_some x (λ f. some (shown_file f.meta f.bytes))) (file-back s o j h.0 h.1 ∙ sym h.1)
 
-  same-shown : (p : Path) → shown back p ≡ shown s p
+  same_shown : (p : Path) → shown back p ≡ shown s p
   unfolding shown
-  same-shown p = ap (λ (x : Option Node). on_some x (shown_node back)) (look-back p) ∙ go (look s.tree p) refl
+  same_shown p = ap (λ (x : Option Node). on_some x (shown_node back)) (look-back p) ∙ go (look s.tree p) refl
     where
       go : (x : Option Node) → look s.tree p ≡ x → on_some (mapped (placed s) x) (shown_node back) ≡ on_some x (shown_node s)
       go none e = refl
@@ -98,7 +98,7 @@ module _ (s : State) (o : Obeys s) (a : Ascends s.tree) where
       two (link m w) x y = absurd (link_no_file m w (home s j) y)
       two (file i) x y =
           let h = o.nodes p (file i) x in
-          subst (λ (k : ℕ). T (is_named s.tree k)) (home-own s o i j h.0 f h.1 e (file-inj y)) (at_named s.tree p i x)
+          subst (λ (k : ℕ). T (is_named s.tree k)) (home_own s o i j h.0 f h.1 e (file-inj y)) (at_named s.tree p i x)
 
       go : (x : Option Node) → look s.tree p ≡ x → T (is_named s.tree j)
       go none x = clash (look back.tree p) (file (home s j)) (look-back p ∙ ap (mapped (placed s)) x) at
@@ -125,21 +125,21 @@ module _ (s : State) (o : Obeys s) (a : Ascends s.tree) where
       go : (c : Bool) → ltb n 32 ≡ c → (x : Option Open) → open_of s.opens n ≡ x → open_of back.opens n ≡ opened n x
       go false l none e = shut (inr (ltb-false n 32 l))
       go false l (some b) e = absurd (omega (arith, (o.opens n b e).0, ltb-false n 32 l))
-      go true l none e = shut (inl (holder-back s n (ltb-true n 32 l) ∙ ap (holderBy s) e))
+      go true l none e = shut (inl (holder-back s n (ltb-true n 32 l) ∙ ap (holder_by s) e))
       go true l (some b) e =
           let low = ltb-true n 32 l in
-          let hold : holder (spell s) n ≡ suc (home s b.id) = holder-back s n low ∙ ap (holderBy s) e in
+          let hold : holder (spell s) n ≡ suc (home s b.id) = holder-back s n low ∙ ap (holder_by s) e in
           let id : holder (spell s) n - 1 ≡ home s b.id = omega (arith, hold) in
-          let pos : position (spell s) n ≡ b.pos = position-back s n low ∙ ap (positionBy s) e in
+          let pos : position (spell s) n ≡ b.pos = position-back s n low ∙ ap (position_by s) e in
           let ok = (o.opens n b e).2 in
           let text : text_of s (suc n) ≡ body b.kept = ap kept_text e in
           let kept : names (cell (spell s) (suc n) (kept_length (spell s) n)) ≡ b.kept =
           ap names (text-back s (suc n) (kept_length (spell s) n) (omega arith) (omega (arith, ap length text, path-short b.kept ok)) (kept_back s n low) ∙ text) ∙ path-back b.kept ok in
           open_there (spell s) 32 0 n (omega arith) (omega arith) (λ z. omega (arith, hold)) ∙ ap some (λ i. record { num = n; id = id i; pos = pos i; kept = kept i })
 
-  same-position : (n : ℕ) → position_of back n ≡ position_of s n
+  same_position : (n : ℕ) → position_of back n ≡ position_of s n
   unfolding position_of answer
-  same-position n = ap (λ (x : Option Open). on_some x (λ b. some (place b))) (open-back n) ∙ go (open_of s.opens n)
+  same_position n = ap (λ (x : Option Open). on_some x (λ b. some (place b))) (open-back n) ∙ go (open_of s.opens n)
     where
       place : Open → Position
       place b = record { pos = b.pos; kept = b.kept }
@@ -148,9 +148,9 @@ module _ (s : State) (o : Obeys s) (a : Ascends s.tree) where
       go none = refl
       go (some b) = refl
 
-  same-share : (n m : ℕ) → share back n m ≡ share s n m
+  same_share : (n m : ℕ) → share back n m ≡ share s n m
   unfolding share
-  same-share n m = (λ i. same_id (open-back n i) (open-back m i)) ∙ go (open_of s.opens n) refl (open_of s.opens m) refl
+  same_share n m = (λ i. same_id (open-back n i) (open-back m i)) ∙ go (open_of s.opens n) refl (open_of s.opens m) refl
     where
       go : (x : Option Open) → open_of s.opens n ≡ x → (y : Option Open) → open_of s.opens m ≡ y → same_id (opened n x) (opened m y) ≡ same_id x y
       go none e y g = refl
@@ -162,7 +162,7 @@ module _ (s : State) (o : Obeys s) (a : Ascends s.tree) where
           two false z =
               let f = (o.opens n b e).3 in
               let h = (o.opens m c g).3 in
-              ne_eqb (home s b.id) (home s c.id) (λ w. false≢true (sym z ∙ eq-eqb b.id c.id (home-own s o b.id c.id f.0 h.0 f.1 h.1 w)))
+              ne_eqb (home s b.id) (home s c.id) (λ w. false≢true (sym z ∙ eq-eqb b.id c.id (home_own s o b.id c.id f.0 h.0 f.1 h.1 w)))
 
   on-file : (n : ℕ) (b : Open) → open_of back.opens n ≡ some b → ((p : Path) × StandsAt back n p × StandsAt s n p) ⊎ ((f : File) × StandsRemoved back n f × StandsRemoved s n f)
   on-file n b e = go (open_of s.opens n) refl
@@ -196,7 +196,7 @@ module _ (s : State) (o : Obeys s) (a : Ascends s.tree) where
       own i j x y (no n) =
           let f = o.nodes p (file i) x in
           let g = o.nodes q (file j) y in
-          ne_eqb (home s i) (home s j) (λ e. n (home-own s o i j f.0 g.0 f.1 g.1 e)) ∙ sym (ne_eqb i j n)
+          ne_eqb (home s i) (home s j) (λ e. n (home_own s o i j f.0 g.0 f.1 g.1 e)) ∙ sym (ne_eqb i j n)
 
       go : (x : Option Node) → look s.tree p ≡ x → (y : Option Node) → look s.tree q ≡ y
           → same_file (mapped (placed s) x) (mapped (placed s) y) ≡ same_file x y
@@ -211,12 +211,12 @@ module _ (s : State) (o : Obeys s) (a : Ascends s.tree) where
   pub spell-alike : Alike back s
   spell-alike =
       record {
-        entries = same-shown;
+        entries = same_shown;
         names = same_files;
-        opens = record { position = same-position; on_file = on-file; sharing = same-share };
+        opens = record { position = same_position; on_file = on-file; sharing = same_share };
         current = ap names (text-back s 0 _ (omega arith) (path-short s.here o.current) (here_back s)) ∙ path-back s.here o.current;
         umask = mask-back s;
-        entry_limit = most-back s;
+        entry_limit = most_back s;
         byte_limit = room_back s;
       }
 

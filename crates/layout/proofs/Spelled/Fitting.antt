@@ -53,15 +53,15 @@ module _ (s : State) (o : Obeys s) where
         bytes = h.1;
       }
 
-  is-fits : (k : ℕ) → Is s o k → Fits (item s k)
-  is-fits k (free e h) = subst Fits (sym e) (record { kind = omega arith; length = omega arith; meta = no-meta; bytes = no_bytes_lem })
-  is-fits k (a_dir m n e h) =
+  is_fits : (k : ℕ) → Is s o k → Fits (item s k)
+  is_fits k (free e h) = subst Fits (sym e) (record { kind = omega arith; length = omega arith; meta = no-meta; bytes = no_bytes_lem })
+  is_fits k (a_dir m n e h) =
       subst Fits (sym e) (record { kind = omega arith; length = omega arith; meta = node_ok k (dir m) h n; bytes = no_bytes_lem })
-  is-fits k (a_link m t n e h) =
+  is_fits k (a_link m t n e h) =
       let w = node_ok k (link m t) h n in
       subst Fits (sym e) (record { kind = omega arith; length = omega (arith, target-short t w.1); meta = w.0; bytes = text-bytes t (target-text t w.1) })
-  is-fits k (named j f x n e y h) = subst Fits (sym e) (file-fits j f x)
-  is-fits k (loose j f x e y u h) = subst Fits (sym e) (file-fits j f x)
+  is_fits k (named j f x n e y h) = subst Fits (sym e) (file-fits j f x)
+  is_fits k (loose j f x e y u h) = subst Fits (sym e) (file-fits j f x)
 
   pub fits : (k : ℕ) → Fits (item s k)
-  fits k = is-fits k (is s o k)
+  fits k = is_fits k (is s o k)

@@ -15,15 +15,15 @@ use Rattle.model.specs.Calls.States.{State, is_named, is_held}
 use Rattle.model.specs.Rules.{Obeys}
 use Rattle.model.proofs.Demand.Contents.{or_elim, at_named, held_by}
 use Rattle.model.proofs.Entries.{some_inj, is_true, of_true}
-use Rattle.layout.proofs.Spelled.Items.{Item, free_item, file_item, file_or, item_of, on_by, first_on, first_on_lem, node_in, path_in, index_of, index-named, look_in, index_is, itemIf, numberBy, item, home, item-entry, item-gap, item-number}
+use Rattle.layout.proofs.Spelled.Items.{Item, free_item, file_item, file_or, item_of, on_by, first_on, first_on_lem, node_in, path_in, index_of, index-named, look_in, index_is, item_if, number_by, item, home, item-entry, item-gap, item-number}
 
 module _ (s : State) (o : Obeys s) where
   -- ---- the slot of a file
 
   -- a number that stands on a file without a name, and the first that does
-  first-number : (j : ℕ) (f : File) → file_of s.files j ≡ some f → is_named s.tree j ≡ false
+  first_number : (j : ℕ) (f : File) → file_of s.files j ≡ some f → is_named s.tree j ≡ false
       → (on_by (open_of s.opens (first_on s.opens j 32 0)) j ≡ true) × (first_on s.opens j 32 0 < 32)
-  first-number j f e u = go (or_elim (is_named s.tree j) (is_held s.opens j) (o.used j f e))
+  first_number j f e u = go (or_elim (is_named s.tree j) (is_held s.opens j) (o.used j f e))
     where
       go : T (is_named s.tree j) ⊎ T (is_held s.opens j) → (on_by (open_of s.opens (first_on s.opens j 32 0)) j ≡ true) × (first_on s.opens j 32 0 < 32)
       go (inl t) = absurd (false≢true (sym u ∙ is_true (is_named s.tree j) t))
@@ -47,10 +47,10 @@ module _ (s : State) (o : Obeys s) where
   loose-home j u = ap (λ (b : Bool). cond b (index_of s.tree j) (s.most + first_on s.opens j 32 0)) u
 
   number-item : (j : ℕ) (f : File) → file_of s.files j ≡ some f → is_named s.tree j ≡ false → (x : Option Open) → on_by x j ≡ true
-      → numberBy s (first_on s.opens j 32 0) x ≡ file_item j f
+      → number_by s (first_on s.opens j 32 0) x ≡ file_item j f
   number-item j f e u none t = absurd (false≢true t)
   number-item j f e u (some b) t =
-      ap (λ (i : ℕ). itemIf s (not (is_named s.tree i) && eqb (first_on s.opens i 32 0) (first_on s.opens j 32 0)) (file_or i (file_of s.files i))) (eqb-true b.id j t)
+      ap (λ (i : ℕ). item_if s (not (is_named s.tree i) && eqb (first_on s.opens i 32 0) (first_on s.opens j 32 0)) (file_or i (file_of s.files i))) (eqb-true b.id j t)
       ∙ rw (u, eq-eqb (first_on s.opens j 32 0) (first_on s.opens j 32 0) refl, e)
 
   pub stands : (j : ℕ) (f : File) → file_of s.files j ≡ some f → Stands j f
@@ -65,7 +65,7 @@ module _ (s : State) (o : Obeys s) where
             item = ap (item s) h ∙ item-entry s (index_of s.tree j) g.0 ∙ ap (item_of s.files) g.1 ∙ ap (file_or j) e;
           }
       go false u =
-          let g = first-number j f e u in
+          let g = first_number j f e u in
           let h = loose-home j u in
           record {
             low = omega (arith, g.1, h);
@@ -74,8 +74,8 @@ module _ (s : State) (o : Obeys s) where
           }
 
   -- files have slots of their own
-  pub home-own : (i j : ℕ) (f g : File) → file_of s.files i ≡ some f → file_of s.files j ≡ some g → home s i ≡ home s j → i ≡ j
-  home-own i j f g x y e =
+  pub home_own : (i j : ℕ) (f g : File) → file_of s.files i ≡ some f → file_of s.files j ≡ some g → home s i ≡ home s j → i ≡ j
+  home_own i j f g x y e =
       some_inj (ap (λ (t : Item). t.id) (sym (stands i f x).item ∙ ap (item s) e ∙ (stands j g y).item))
 
   -- ---- what stands in a slot
@@ -87,8 +87,8 @@ module _ (s : State) (o : Obeys s) where
     named : (j : ℕ) (f : File) → file_of s.files j ≡ some f → node_in s.tree k ≡ file j → item s k ≡ file_item j f → home s j ≡ k → k < length s.tree → Is k
     loose : (j : ℕ) (f : File) → file_of s.files j ≡ some f → item s k ≡ file_item j f → home s j ≡ k → is_named s.tree j ≡ false → length s.tree ≤ k → Is k
 
-  entry-is : (k : ℕ) → k < length s.tree → Is k
-  entry-is k h = go (node_in s.tree k) refl
+  entry_is : (k : ℕ) → k < length s.tree → Is k
+  entry_is k h = go (node_in s.tree k) refl
     where
       there : look s.tree (path_in s.tree k) ≡ some (node_in s.tree k)
       there = look_in s.tree o.paths k h
@@ -108,15 +108,15 @@ module _ (s : State) (o : Obeys s) where
       far : length s.tree ≤ s.most + n
       far = omega (arith, o.entries_fit)
 
-      at : (x : Option Open) → open_of s.opens n ≡ x → item s (s.most + n) ≡ numberBy s n x
-      at x e = item-number s n o.entries_fit ∙ ap (numberBy s n) e
+      at : (x : Option Open) → open_of s.opens n ≡ x → item s (s.most + n) ≡ number_by s n x
+      at x e = item-number s n o.entries_fit ∙ ap (number_by s n) e
 
       go : (x : Option Open) → open_of s.opens n ≡ x → Is (s.most + n)
       go none e = free (at none e) far
       go (some b) e = two (is_named s.tree b.id) refl (eqb (first_on s.opens b.id 32 0) n) refl (file_of s.files b.id) refl
         where
           at-file : (u v : Bool) (x : Option File) → is_named s.tree b.id ≡ u → eqb (first_on s.opens b.id 32 0) n ≡ v → file_of s.files b.id ≡ x
-              → item s (s.most + n) ≡ itemIf s (not u && v) (file_or b.id x)
+              → item s (s.most + n) ≡ item_if s (not u && v) (file_or b.id x)
           at-file u v x p q r = at (some b) e ∙ rw (p, q, r)
 
           two : (u : Bool) → is_named s.tree b.id ≡ u → (v : Bool) → eqb (first_on s.opens b.id 32 0) n ≡ v → (x : Option File) → file_of s.files b.id ≡ x
@@ -132,7 +132,7 @@ module _ (s : State) (o : Obeys s) where
   is k = go (ltb k (length s.tree)) refl (ltb k s.most) refl
     where
       go : (a : Bool) → ltb k (length s.tree) ≡ a → (b : Bool) → ltb k s.most ≡ b → Is k
-      go true x b y = entry-is k (ltb-true k (length s.tree) x)
+      go true x b y = entry_is k (ltb-true k (length s.tree) x)
       go false x true y = free (item-gap s k (ltb-false k (length s.tree) x) (ltb-true k s.most y)) (ltb-false k (length s.tree) x)
       go false x false y =
           let e : s.most + (k - s.most) ≡ k = omega (arith, ltb-false k s.most y) in

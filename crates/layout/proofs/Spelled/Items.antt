@@ -146,19 +146,19 @@ index_is (f ∷ t) a j o (suc k) h e = go f.1 refl (index_is t a.1 j (one_tail f
 -- ---- all slots
 
 module _ (s : State) where
-  abbrev pub itemIf : Bool → Item → Item
-  itemIf true i = i
-  itemIf false i = free_item
+  abbrev pub item_if : Bool → Item → Item
+  item_if true i = i
+  item_if false i = free_item
 
   -- a number's: the file that it stands on, if that has no name and no earlier number stands on it
-  abbrev pub numberBy : ℕ → Option Open → Item
-  numberBy n none = free_item
-  numberBy n (some o) = itemIf (not (is_named s.tree o.id) && eqb (first_on s.opens o.id 32 0) n) (file_or o.id (file_of s.files o.id))
+  abbrev pub number_by : ℕ → Option Open → Item
+  number_by n none = free_item
+  number_by n (some o) = item_if (not (is_named s.tree o.id) && eqb (first_on s.opens o.id 32 0) n) (file_or o.id (file_of s.files o.id))
 
   unfoldable pub item : ℕ → Item
   item k =
       cond (ltb k (length s.tree)) (item_of s.files (node_in s.tree k))
-      (cond (ltb k s.most) free_item (numberBy (k - s.most) (open_of s.opens (k - s.most))))
+      (cond (ltb k s.most) free_item (number_by (k - s.most) (open_of s.opens (k - s.most))))
 
   -- the slot of a file
   unfoldable pub home : ℕ → ℕ
@@ -172,7 +172,7 @@ module _ (s : State) where
   unfolding item
   item-gap k h g = rw (le-ltb k (length s.tree) h, lt-ltb k s.most g)
 
-  pub item-number : (n : ℕ) → length s.tree ≤ s.most → item (s.most + n) ≡ numberBy n (open_of s.opens n)
+  pub item-number : (n : ℕ) → length s.tree ≤ s.most → item (s.most + n) ≡ number_by n (open_of s.opens n)
   unfolding item
   item-number n h =
       let e : s.most + n - s.most ≡ n = omega arith in

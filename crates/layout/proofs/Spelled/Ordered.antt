@@ -31,9 +31,9 @@ module _ (s : State) (o : Obeys s) where
   back : (p : Path) (n : Node) → look (sort s.tree) p ≡ some n → look s.tree p ≡ some n
   back p n e = sym (sort-look s.tree p) ∙ e
 
-  still-used : (i : ℕ) → T (is_named s.tree i) ⊎ T (is_held s.opens i) → T (is_named (sort s.tree) i || is_held s.opens i)
-  still-used i (inl t) = or_left (is_named (sort s.tree) i) (is_held s.opens i) (sort-named s.tree o.paths i t)
-  still-used i (inr t) = or_right (is_named (sort s.tree) i) (is_held s.opens i) t
+  still_used : (i : ℕ) → T (is_named s.tree i) ⊎ T (is_held s.opens i) → T (is_named (sort s.tree) i || is_held s.opens i)
+  still_used i (inl t) = or_left (is_named (sort s.tree) i) (is_held s.opens i) (sort-named s.tree o.paths i t)
+  still_used i (inr t) = or_right (is_named (sort s.tree) i) (is_held s.opens i) t
 
   pub sorted-obeys : Obeys (sorted s)
   sorted-obeys =
@@ -50,7 +50,7 @@ module _ (s : State) (o : Obeys s) where
         files = o.files;
         each_file = o.each_file;
         one_name = λ p q i x y. o.one_name p q i (back p _ x) (back q _ y);
-        used = λ i f e. still-used i (or_elim (is_named s.tree i) (is_held s.opens i) (o.used i f e));
+        used = λ i f e. still_used i (or_elim (is_named s.tree i) (is_held s.opens i) (o.used i f e));
         numbers = o.numbers;
         opens = o.opens;
         current = o.current;
@@ -81,17 +81,17 @@ module _ (s : State) (o : Obeys s) where
     on-file n (inl h) = inl (h.0, h.1, stands n h.0 h.2)
     on-file n (inr h) = inr (h.0, h.1, removed n h.0 h.2)
 
-    same-position : (n : ℕ) → position_of (sorted s) n ≡ position_of s n
+    same_position : (n : ℕ) → position_of (sorted s) n ≡ position_of s n
     unfolding position_of answer
-    same-position n = refl
+    same_position n = refl
 
-    same-share : (n m : ℕ) → share (sorted s) n m ≡ share s n m
+    same_share : (n m : ℕ) → share (sorted s) n m ≡ share s n m
     unfolding share
-    same-share n m = refl
+    same_share n m = refl
 
-    same-shown : (p : Path) → shown (sorted s) p ≡ shown s p
+    same_shown : (p : Path) → shown (sorted s) p ≡ shown s p
     unfolding shown shown_node
-    same-shown p = ap (λ (n : Option Node). on_some n (shown_node (sorted s))) (sort-look s.tree p) ∙ go (look s.tree p)
+    same_shown p = ap (λ (n : Option Node). on_some n (shown_node (sorted s))) (sort-look s.tree p) ∙ go (look s.tree p)
       where
         go : (x : Option Node) → on_some x (shown_node (sorted s)) ≡ on_some x (shown_node s)
         go none = refl
@@ -106,12 +106,12 @@ module _ (s : State) (o : Obeys s) where
     pub alike-sorted : Alike v s
     alike-sorted =
         record {
-          entries = λ p. a.entries p ∙ same-shown p;
+          entries = λ p. a.entries p ∙ same_shown p;
           names = λ p q. a.names p q ∙ same_files p q;
           opens = record {
-            position = λ n. a.opens.position n ∙ same-position n;
+            position = λ n. a.opens.position n ∙ same_position n;
             on_file = λ n b e. on-file n (a.opens.on_file n b e);
-            sharing = λ n m. a.opens.sharing n m ∙ same-share n m;
+            sharing = λ n m. a.opens.sharing n m ∙ same_share n m;
           };
           current = a.current;
           umask = a.umask;

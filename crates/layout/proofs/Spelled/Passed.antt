@@ -15,7 +15,7 @@ use Rattle.layout.specs.Numbers.{word_count, paths_bytes}
 use Rattle.layout.specs.Lawful.{Lawful, Sized, Long, Passes}
 use Rattle.layout.proofs.Spelled.Lawing.{spell-lawful}
 use Rattle.layout.proofs.Spelled.Ordered.{sorted, sorted-obeys, sorted-ascends, alike-sorted}
-use Rattle.layout.proofs.Spelled.Stored.{spell, heads-length, most-back}
+use Rattle.layout.proofs.Spelled.Stored.{spell, heads-length, most_back}
 use Rattle.layout.proofs.Spelled.Everything.{spell-alike}
 use Rattle.layout.proofs.Spelled.Sizing.{spell-sized}
 
@@ -46,6 +46,6 @@ every-passes s o =
     let st = spell (sorted s) in
     let l = spell-lawful (sorted s) u a in (
       st,
-      pass_whole st l (spell-sized (sorted s) u) (heads-length (sorted s) ∙ ap slots_for (sym (most-back (sorted s)))),
+      pass_whole st l (spell-sized (sorted s) u) (heads-length (sorted s) ∙ ap slots_for (sym (most_back (sorted s)))),
       subst (λ (x : Store). Alike (state x) s) (sym (whole st l)) (alike-sorted s o (state st) (spell-alike (sorted s) u a)),
     )

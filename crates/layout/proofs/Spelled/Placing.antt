@@ -15,11 +15,11 @@ use Rattle.model.specs.Rules.{Obeys}
 use Rattle.layout.specs.Rows.{Row, tree_from}
 use Rattle.layout.specs.Store.{slots_for, rows_of, meta_at, bytes_at, kind_at, node_at, state}
 use Rattle.layout.specs.Lawful.{rows_ok, uses}
-use Rattle.layout.proofs.Slotted.{dir_at, file_at, link_at}
+use Rattle.layout.proofs.Slotted.{dir_at, file_at_lem, link_at}
 use Rattle.layout.proofs.Spelled.Housing.{Is, free, a_dir, a_link, named, loose, is}
 use Rattle.layout.proofs.Spelled.Items.{Item, node_in, home}
 use Rattle.layout.proofs.Climbing.{Ascends}
-use Rattle.layout.proofs.Spelled.Stored.{rowsIn, headsOf, spell, rows-read, heads-length, kind-back, meta-back, bytes_back}
+use Rattle.layout.proofs.Spelled.Stored.{rows_in, heads_of, spell, rows-read, heads-length, kind-back, meta-back, bytes_back}
 use Rattle.layout.proofs.Spelled.Tracing.{rows_from, renamed, kind_num, Holds, Fit, Rows, tree-rows}
 
 -- what holds place by place
@@ -84,27 +84,27 @@ module _ (s : State) where
     entry-holds k h (named j f x n e y g) =
         let low : k < slots_for s.most = omega (arith, o.entries_fit) in
         let kd : kind_at (spell s) k ≡ 2 = kind-back s o k low ∙ ap (λ (i : Item). i.kind) e in
-        (kd ∙ ap kind_num (sym n), file_at (spell s) k kd ∙ ap file (sym y) ∙ ap placed (sym n))
+        (kd ∙ ap kind_num (sym n), file_at_lem (spell s) k kd ∙ ap file (sym y) ∙ ap placed (sym n))
 
     module _ (a : Ascends s.tree) where
-      all-rows : Rows s o (kind_at (spell s)) (slots_for s.most) (omega (arith, o.entry_limit.1)) (node_at (spell s)) placed s.tree
-      all-rows =
+      all_rows : Rows s o (kind_at (spell s)) (slots_for s.most) (omega (arith, o.entry_limit.1)) (node_at (spell s)) placed s.tree
+      all_rows =
           tree-rows s o (kind_at (spell s)) (slots_for s.most) (omega (arith, o.entry_limit.1)) (node_at (spell s)) placed a (omega (arith, o.entries_fit))
           (holds_from (kind_at (spell s)) (node_at (spell s)) placed 0 s.tree
           (λ i h. let z : 0 + i ≡ i = omega arith in
           let g = entry-holds i h (is s o i) in
           (ap (kind_at (spell s)) z ∙ g.0, ap (node_at (spell s)) z ∙ g.1)))
 
-      pub rows_fit_lem : Fit (rowsIn s)
-      rows_fit_lem = all-rows.fit
+      pub rows_fit_lem : Fit (rows_in s)
+      rows_fit_lem = all_rows.fit
 
-      pub rows_are : rows_of (spell s) ≡ rowsIn s
+      pub rows_are : rows_of (spell s) ≡ rows_in s
       rows_are = rows-read s rows_fit_lem
 
-      pub entries-ok : T (rows_ok (kind_at (spell s)) (length (headsOf s)) (rows_of (spell s)))
+      pub entries-ok : T (rows_ok (kind_at (spell s)) (length (heads_of s)) (rows_of (spell s)))
       entries-ok =
-          subst (λ (rs : List Row). T (rows_ok (kind_at (spell s)) (length (headsOf s)) rs)) (sym rows_are)
-          (subst (λ (n : ℕ). T (rows_ok (kind_at (spell s)) n (rowsIn s))) (sym (heads-length s)) all-rows.ok)
+          subst (λ (rs : List Row). T (rows_ok (kind_at (spell s)) (length (heads_of s)) rs)) (sym rows_are)
+          (subst (λ (n : ℕ). T (rows_ok (kind_at (spell s)) n (rows_in s))) (sym (heads-length s)) all_rows.ok)
 
       pub tree-back : (state (spell s)).tree ≡ renamed placed s.tree
-      tree-back = ap (tree_from (node_at (spell s)) []) rows_are ∙ all-rows.tree
+      tree-back = ap (tree_from (node_at (spell s)) []) rows_are ∙ all_rows.tree

@@ -28,9 +28,9 @@ use Rattle.layout.proofs.Spelled.Housing.{stands}
 use Rattle.layout.proofs.Spelled.Items.{Item, path_in, look_in, item}
 use Rattle.layout.proofs.Spelled.Placing.{rows_fit_lem}
 use Rattle.layout.proofs.Spelled.Slotting.{path-short}
-use Rattle.layout.proofs.Spelled.Stored.{rowsIn, numberWord, word_of, words_of, recordsOf, headsOf, timesOf, pathsOf, joined, bytes_of, spell}
+use Rattle.layout.proofs.Spelled.Stored.{rows_in, number_word, word_of, words_of, records_of, heads_of, times_of, paths_of, joined, bytes_of, spell}
 use Rattle.layout.proofs.Spelled.Tracing.{rows_from}
-use Rattle.layout.proofs.Spelled.Listed.{tab, tab-all}
+use Rattle.layout.proofs.Spelled.Listed.{tab, tab_all}
 use Rattle.layout.proofs.Spelled.Written.{name_text, records-small, head_of, join_from, time_of, kept_text, text_of}
 
 -- ---- bytes
@@ -75,7 +75,7 @@ time-ok m (suc (suc (suc k))) t = (meta-parts m t).modified
 module _ (s : State) (o : Obeys s) where
   -- ---- words
 
-  number_small : (n k : ℕ) (x : Option Open) → open_of s.opens n ≡ x → numberWord s k x < 2 ^ 64
+  number_small : (n k : ℕ) (x : Option Open) → open_of s.opens n ≡ x → number_word s k x < 2 ^ 64
   number_small n zero none e = omega arith
   number_small n (suc zero) none e = omega arith
   number_small n (suc (suc k)) none e = omega arith
@@ -93,39 +93,39 @@ module _ (s : State) (o : Obeys s) where
   word_small (suc (suc (suc (suc zero)))) = omega (arith, path-short s.here o.current)
   word_small (suc (suc (suc (suc (suc k))))) = go (eqb k 96)
     where
-      go : (b : Bool) → cond b (slots_for s.most) (numberWord s (k % 3) (open_of s.opens (k / 3))) < 2 ^ 64
+      go : (b : Bool) → cond b (slots_for s.most) (number_word s (k % 3) (open_of s.opens (k / 3))) < 2 ^ 64
       go true = omega (arith, o.entry_limit.1)
       go false = number_small (k / 3) (k % 3) (open_of s.opens (k / 3)) refl
 
   words_small : (i : ℕ) → get_or (words_of s) i 0 < 2 ^ 64
   unfolding words_of
-  words_small i = tab-all (λ x. x < 2 ^ 64) (word_of s) 102 i 0 word_small (omega arith)
+  words_small i = tab_all (λ x. x < 2 ^ 64) (word_of s) 102 i 0 word_small (omega arith)
 
-  heads-small : (i : ℕ) → get_or (headsOf s) i 0 < 2 ^ 64
-  unfolding headsOf
+  heads-small : (i : ℕ) → get_or (heads_of s) i 0 < 2 ^ 64
+  unfolding heads_of
   heads-small i =
-      tab-all (λ x. x < 2 ^ 64) (λ k. head_of (item s k)) (slots_for s.most) i 0
+      tab_all (λ x. x < 2 ^ 64) (λ k. head_of (item s k)) (slots_for s.most) i 0
       (λ k. let f = fits s o k in head_small (length (item s k).bytes) (item s k).kind (item s k).meta.mode f.length f.kind (meta-parts (item s k).meta f.meta).mode) (omega arith)
 
-  times-ok : (i : ℕ) → T (time_ok (get_or (timesOf s) i (pos 0)))
-  unfolding timesOf time_ok
+  times-ok : (i : ℕ) → T (time_ok (get_or (times_of s) i (pos 0)))
+  unfolding times_of time_ok
   times-ok i =
-      tab-all (λ x. T (time_ok x)) (λ k. time_of (item s (k / 4)).meta (k % 4)) (4 * slots_for s.most) i (pos 0)
+      tab_all (λ x. T (time_ok x)) (λ k. time_of (item s (k / 4)).meta (k % 4)) (4 * slots_for s.most) i (pos 0)
       (λ k. time-ok (item s (k / 4)).meta (k % 4) (fits s o (k / 4)).meta) tt
 
-  all-bytes : T (bytes_ok (bytes_of s))
+  all_bytes : T (bytes_ok (bytes_of s))
   unfolding bytes_of joined
-  all-bytes =
-      let gap = s.room - (length (name_text (rowsIn s)) + length (joined s)) in
-      joined_bytes (name_text (rowsIn s) ++ replicate gap 0) (joined s)
-      (joined_bytes (name_text (rowsIn s)) (replicate gap 0) (name-bytes 0 s.tree (λ i h. o.named (path_in s.tree i) _ (look_in s.tree o.paths i h))) (zero-bytes gap))
+  all_bytes =
+      let gap = s.room - (length (name_text (rows_in s)) + length (joined s)) in
+      joined_bytes (name_text (rows_in s) ++ replicate gap 0) (joined s)
+      (joined_bytes (name_text (rows_in s)) (replicate gap 0) (name-bytes 0 s.tree (λ i h. o.named (path_in s.tree i) _ (look_in s.tree o.paths i h))) (zero-bytes gap))
       (join-bytes (item s) (fits s o) (slots_for s.most) 0)
 
   -- ---- records and cells, of which the rules ask nothing
 
-  pub record-words : Ascends s.tree → (i : ℕ) → get_or (recordsOf s) i 0 < 2 ^ 64
-  unfolding recordsOf
-  record-words a i = records-small (rowsIn s) (s.most - length s.tree) (rows_fit_lem s o a) i
+  pub record-words : Ascends s.tree → (i : ℕ) → get_or (records_of s) i 0 < 2 ^ 64
+  unfolding records_of
+  record-words a i = records-small (rows_in s) (s.most - length s.tree) (rows_fit_lem s o a) i
 
   path_bytes : (p : Path) → T (path_ok p) → T (bytes_ok (body p))
   path_bytes p t = text-bytes (body p) (body-text p (every_map (λ n f. f.text) p (names-parts p (path_names p t))))
@@ -138,9 +138,9 @@ module _ (s : State) (o : Obeys s) where
       go none e = no_bytes_lem
       go (some b) e = path_bytes b.kept (o.opens n b e).2
 
-  pub path-cells : T (bytes_ok (pathsOf s))
-  unfolding pathsOf
+  pub path-cells : T (bytes_ok (paths_of s))
+  unfolding paths_of
   path-cells = tab-bytes (λ k. get_or (text_of s (k / 1024)) (k % 1024) 0) 33792 0 (λ k. byte_at (text_of s (k / 1024)) (k % 1024) (text-small (k / 1024)))
 
   pub spell-sized : Sized (spell s)
-  spell-sized = record { words = words_small; heads = heads-small; times = times-ok; bytes = all-bytes }
+  spell-sized = record { words = words_small; heads = heads-small; times = times-ok; bytes = all_bytes }

@@ -31,7 +31,7 @@ use Rattle.layout.proofs.Spelled.Items.{Item, free_item, file_item, item_of, ite
 use Rattle.layout.proofs.Spelled.Placing.{uses_past, uses-in, rows_are}
 use Rattle.layout.proofs.Climbing.{Ascends}
 use Rattle.layout.proofs.Worded.{head-length}
-use Rattle.layout.proofs.Spelled.Stored.{headsOf, holderBy, spell, here_back, holder-back, kept_back, text-back, heads-length, head-back, kind-back, bytes_back}
+use Rattle.layout.proofs.Spelled.Stored.{heads_of, holder_by, spell, here_back, holder-back, kept_back, text-back, heads-length, head-back, kind-back, bytes_back}
 use Rattle.layout.proofs.Spelled.Written.{head_of, kept_text, text_of}
 
 -- ---- a path in its cell
@@ -68,16 +68,16 @@ module _ (s : State) (o : Obeys s) where
   number_ok_lem n h = go (open_of s.opens n) refl
     where
       tests : Bool
-      tests = leb (holder (spell s) n) (length (headsOf s)) && kept_ok (spell s) (suc n) (kept_length (spell s) n)
+      tests = leb (holder (spell s) n) (length (heads_of s)) && kept_ok (spell s) (suc n) (kept_length (spell s) n)
 
       go : (x : Option Open) → open_of s.opens n ≡ x → T (number_ok (spell s) n)
-      go none e = or_left (eqb (holder (spell s) n) 0) tests (of_true (eq-eqb (holder (spell s) n) 0 (holder-back s n h ∙ ap (holderBy s) e)))
+      go none e = or_left (eqb (holder (spell s) n) 0) tests (of_true (eq-eqb (holder (spell s) n) 0 (holder-back s n h ∙ ap (holder_by s) e)))
       go (some b) e =
           let f = opened n b e in
-          let hold : holder (spell s) n ≡ suc (home s b.id) = holder-back s n h ∙ ap (holderBy s) e in
+          let hold : holder (spell s) n ≡ suc (home s b.id) = holder-back s n h ∙ ap (holder_by s) e in
           or_right (eqb (holder (spell s) n) 0) tests
-          (and_both (leb (holder (spell s) n) (length (headsOf s))) (kept_ok (spell s) (suc n) (kept_length (spell s) n))
-          (le→leb (holder (spell s) n) (length (headsOf s)) (omega (arith, hold, heads-length s, (stands s o b.id f.0 f.1).low)))
+          (and_both (leb (holder (spell s) n) (length (heads_of s))) (kept_ok (spell s) (suc n) (kept_length (spell s) n))
+          (le→leb (holder (spell s) n) (length (heads_of s)) (omega (arith, hold, heads-length s, (stands s o b.id f.0 f.1).low)))
           (kept-ok (suc n) (kept_length (spell s) n) b.kept (omega arith) (o.opens n b e).2 (ap kept_text e) (kept_back s n h)))
 
   -- ---- who holds a slot
@@ -93,14 +93,14 @@ module _ (s : State) (o : Obeys s) where
       n = h.0
 
       go : (x : Option Open) → open_of s.opens n ≡ x → (j : ℕ) × (f : File) × (item s k ≡ file_item j f)
-      go none e = absurd (omega (arith, h.2, holder-back s n (omega (arith, h.1)) ∙ ap (holderBy s) e))
+      go none e = absurd (omega (arith, h.2, holder-back s n (omega (arith, h.1)) ∙ ap (holder_by s) e))
       go (some b) e =
           let f = opened n b e in
-          let z : home s b.id ≡ k = omega (arith, h.2, holder-back s n (omega (arith, h.1)) ∙ ap (holderBy s) e) in
+          let z : home s b.id ≡ k = omega (arith, h.2, holder-back s n (omega (arith, h.1)) ∙ ap (holder_by s) e) in
           (b.id, f.0, ap (item s) (sym z) ∙ (stands s o b.id f.0 f.1).item)
 
-  not-held : (k : ℕ) → ((item s k).kind ≡ 2 → ⊥) → T (held_from (spell s) 32 0 k) → ⊥
-  not-held k n t = let h = held-file k t in n (ap (λ (i : Item). i.kind) h.2)
+  not_held : (k : ℕ) → ((item s k).kind ≡ 2 → ⊥) → T (held_from (spell s) 32 0 k) → ⊥
+  not_held k n t = let h = held-file k t in n (ap (λ (i : Item). i.kind) h.2)
 
   -- a file without a name is held
   held-loose : (j : ℕ) (f : File) (k : ℕ) → file_of s.files j ≡ some f → is_named s.tree j ≡ false → home s j ≡ k → T (held_from (spell s) 32 0 k)
@@ -112,7 +112,7 @@ module _ (s : State) (o : Obeys s) where
           let h = Contents.held_by s.opens o.numbers j t in
           let low = (o.opens h.0 h.1 h.2).0 in
           held_by (spell s) 32 0 h.0 k (omega arith) (omega arith)
-          (holder-back s h.0 (omega arith) ∙ ap (holderBy s) h.2 ∙ ap (λ (i : ℕ). suc (home s i)) h.3 ∙ ap suc z)
+          (holder-back s h.0 (omega arith) ∙ ap (holder_by s) h.2 ∙ ap (λ (i : ℕ). suc (home s i)) h.3 ∙ ap suc z)
 
   -- ---- each slot
 
@@ -121,7 +121,7 @@ module _ (s : State) (o : Obeys s) where
     kind-is i e = kind-back s o k low ∙ ap (λ (x : Item). x.kind) e
 
     no-hold : (i : Item) → item s k ≡ i → (i.kind ≡ 2 → ⊥) → T (held_from (spell s) 32 0 k) → ⊥
-    no-hold i e n = not-held k (λ z. n (ap (λ (x : Item). x.kind) (sym e) ∙ z))
+    no-hold i e n = not_held k (λ z. n (ap (λ (x : Item). x.kind) (sym e) ∙ z))
 
     uses-one : k < length s.tree → uses k (rows_of (spell s)) ≡ 1
     uses-one h = ap (uses k) (rows_are s o a) ∙ uses-in 0 k s.tree (omega arith) (omega arith)

@@ -25,28 +25,28 @@ use Rattle.layout.proofs.Worded.{head-kind, head-mode}
 use Rattle.layout.proofs.Spelled.Fitting.{fits}
 use Rattle.layout.proofs.Spelled.Items.{item, home}
 use Rattle.layout.proofs.Spelled.Tracing.{rows_from, Fit}
-use Rattle.layout.proofs.Spelled.Listed.{tab, tab-length, tab-at}
+use Rattle.layout.proofs.Spelled.Listed.{tab, tab-length, tab_at}
 use Rattle.layout.proofs.Spelled.Written.{record_of, name_text, rows_back, names-counted, head_of, join_from, split-back, total-joined, time_of, kept_text, text_of, cell-back}
 
 module _ (s : State) where
   -- ---- the slices
 
-  abbrev pub rowsIn : List Row
-  rowsIn = rows_from 0 s.tree
+  abbrev pub rows_in : List Row
+  rows_in = rows_from 0 s.tree
 
-  abbrev pub holderBy : Option Open → ℕ
-  holderBy none = 0
-  holderBy (some b) = suc (home s b.id)
+  abbrev pub holder_by : Option Open → ℕ
+  holder_by none = 0
+  holder_by (some b) = suc (home s b.id)
 
-  abbrev pub positionBy : Option Open → ℕ
-  positionBy none = 0
-  positionBy (some b) = b.pos
+  abbrev pub position_by : Option Open → ℕ
+  position_by none = 0
+  position_by (some b) = b.pos
 
   -- the three words of a number
-  abbrev pub numberWord : ℕ → Option Open → ℕ
-  numberWord zero x = holderBy x
-  numberWord (suc zero) x = positionBy x
-  numberWord (suc (suc k)) x = length (kept_text x)
+  abbrev pub number_word : ℕ → Option Open → ℕ
+  number_word zero x = holder_by x
+  number_word (suc zero) x = position_by x
+  number_word (suc (suc k)) x = length (kept_text x)
 
   abbrev pub word_of : ℕ → ℕ
   word_of zero = s.most
@@ -54,32 +54,32 @@ module _ (s : State) where
   word_of (suc (suc zero)) = length s.tree
   word_of (suc (suc (suc zero))) = s.mask
   word_of (suc (suc (suc (suc zero)))) = length (body s.here)
-  word_of (suc (suc (suc (suc (suc k))))) = cond (eqb k 96) (slots_for s.most) (numberWord (k % 3) (open_of s.opens (k / 3)))
+  word_of (suc (suc (suc (suc (suc k))))) = cond (eqb k 96) (slots_for s.most) (number_word (k % 3) (open_of s.opens (k / 3)))
 
   unfoldable pub words_of : List ℕ
   words_of = tab word_of 102 0
 
-  unfoldable pub recordsOf : List ℕ
-  recordsOf = map record_of rowsIn ++ replicate (s.most - length s.tree) 0
+  unfoldable pub records_of : List ℕ
+  records_of = map record_of rows_in ++ replicate (s.most - length s.tree) 0
 
-  unfoldable pub headsOf : List ℕ
-  headsOf = tab (λ k. head_of (item s k)) (slots_for s.most) 0
+  unfoldable pub heads_of : List ℕ
+  heads_of = tab (λ k. head_of (item s k)) (slots_for s.most) 0
 
-  unfoldable pub timesOf : List Time
-  timesOf = tab (λ k. time_of (item s (k / 4)).meta (k % 4)) (4 * slots_for s.most) 0
+  unfoldable pub times_of : List Time
+  times_of = tab (λ k. time_of (item s (k / 4)).meta (k % 4)) (4 * slots_for s.most) 0
 
-  unfoldable pub pathsOf : Bytes
-  pathsOf = tab (λ k. get_or (text_of s (k / 1024)) (k % 1024) 0) 33792 0
+  unfoldable pub paths_of : Bytes
+  paths_of = tab (λ k. get_or (text_of s (k / 1024)) (k % 1024) 0) 33792 0
 
   -- the bytes of all slots
   unfoldable pub joined : Bytes
   joined = join_from (item s) (slots_for s.most) 0
 
   unfoldable pub bytes_of : Bytes
-  bytes_of = (name_text rowsIn ++ replicate (s.room - (length (name_text rowsIn) + length joined)) 0) ++ joined
+  bytes_of = (name_text rows_in ++ replicate (s.room - (length (name_text rows_in) + length joined)) 0) ++ joined
 
   abbrev pub spell : Store
-  spell = record { words = words_of; records = recordsOf; heads = headsOf; times = timesOf; paths = pathsOf; bytes = bytes_of }
+  spell = record { words = words_of; records = records_of; heads = heads_of; times = times_of; paths = paths_of; bytes = bytes_of }
 
   -- ---- lengths
 
@@ -87,26 +87,26 @@ module _ (s : State) where
   unfolding words_of
   words-length = tab-length word_of 102 0
 
-  pub heads-length : length headsOf ≡ slots_for s.most
-  unfolding headsOf
+  pub heads-length : length heads_of ≡ slots_for s.most
+  unfolding heads_of
   heads-length = tab-length (λ k. head_of (item s k)) (slots_for s.most) 0
 
-  pub times-length : length timesOf ≡ 4 * slots_for s.most
-  unfolding timesOf
+  pub times-length : length times_of ≡ 4 * slots_for s.most
+  unfolding times_of
   times-length = tab-length (λ k. time_of (item s (k / 4)).meta (k % 4)) (4 * slots_for s.most) 0
 
-  pub paths-length : length pathsOf ≡ 33792
-  unfolding pathsOf
+  pub paths-length : length paths_of ≡ 33792
+  unfolding paths_of
   paths-length = tab-length (λ k. get_or (text_of s (k / 1024)) (k % 1024) 0) 33792 0
 
   -- ---- words
 
   word_at : (k : ℕ) → k < 102 → get_or words_of k 0 ≡ word_of k
   unfolding words_of
-  word_at k h = tab-at word_of 102 k 0 h
+  word_at k h = tab_at word_of 102 k 0 h
 
-  pub most-back : most spell ≡ s.most
-  most-back = word_at 0 (omega arith)
+  pub most_back : most spell ≡ s.most
+  most_back = word_at 0 (omega arith)
 
   pub room_back : room spell ≡ s.room
   room_back = word_at 1 (omega arith)
@@ -123,21 +123,21 @@ module _ (s : State) where
   pub extent-back : extent spell ≡ slots_for s.most
   extent-back = word_at 101 (omega arith)
 
-  number_at : (n r : ℕ) → n < 32 → r < 3 → (k : ℕ) → k ≡ 5 + (3 * n + r) → get_or words_of k 0 ≡ numberWord r (open_of s.opens n)
+  number_at : (n r : ℕ) → n < 32 → r < 3 → (k : ℕ) → k ≡ 5 + (3 * n + r) → get_or words_of k 0 ≡ number_word r (open_of s.opens n)
   number_at n r h g k e =
       let five : k ≡ suc (suc (suc (suc (suc (3 * n + r))))) = omega arith in
       let left : (3 * n + r) % 3 ≡ r = omega arith in
       let which : (3 * n + r) / 3 ≡ n = omega arith in
       let low : eqb (3 * n + r) 96 ≡ false = ne_eqb (3 * n + r) 96 (λ z. omega arith) in
       word_at k (omega arith) ∙ ap word_of five
-      ∙ ap (λ (b : Bool). cond b (slots_for s.most) (numberWord ((3 * n + r) % 3) (open_of s.opens ((3 * n + r) / 3)))) low
-      ∙ ap (λ (i : ℕ). numberWord i (open_of s.opens ((3 * n + r) / 3))) left
-      ∙ ap (λ (i : ℕ). numberWord r (open_of s.opens i)) which
+      ∙ ap (λ (b : Bool). cond b (slots_for s.most) (number_word ((3 * n + r) % 3) (open_of s.opens ((3 * n + r) / 3)))) low
+      ∙ ap (λ (i : ℕ). number_word i (open_of s.opens ((3 * n + r) / 3))) left
+      ∙ ap (λ (i : ℕ). number_word r (open_of s.opens i)) which
 
-  pub holder-back : (n : ℕ) → n < 32 → holder spell n ≡ holderBy (open_of s.opens n)
+  pub holder-back : (n : ℕ) → n < 32 → holder spell n ≡ holder_by (open_of s.opens n)
   holder-back n h = number_at n 0 h (omega arith) (5 + 3 * n) (omega arith)
 
-  pub position-back : (n : ℕ) → n < 32 → position spell n ≡ positionBy (open_of s.opens n)
+  pub position-back : (n : ℕ) → n < 32 → position spell n ≡ position_by (open_of s.opens n)
   position-back n h = number_at n 1 h (omega arith) (6 + 3 * n) (omega arith)
 
   pub kept_back : (n : ℕ) → n < 32 → kept_length spell n ≡ length (kept_text (open_of s.opens n))
@@ -145,8 +145,8 @@ module _ (s : State) where
 
   -- the text in a cell
   pub text-back : (i n : ℕ) → i < 33 → length (text_of s i) ≤ 1024 → n ≡ length (text_of s i) → cell spell i n ≡ text_of s i
-  unfolding pathsOf
-  text-back i n h l e = ap (λ (k : ℕ). take k (drop (1024 * i) pathsOf)) e ∙ cell-back (text_of s) i h l
+  unfolding paths_of
+  text-back i n h l e = ap (λ (k : ℕ). take k (drop (1024 * i) paths_of)) e ∙ cell-back (text_of s) i h l
 
   -- ---- records
 
@@ -159,40 +159,40 @@ module _ (s : State) where
   rows-length k [] = refl
   rows-length k (e ∷ t) = ap suc (rows-length (suc k) t)
 
-  pub live_back : live spell ≡ map record_of rowsIn
-  unfolding recordsOf
+  pub live_back : live spell ≡ map record_of rows_in
+  unfolding records_of
   live_back =
-      ap (λ (k : ℕ). take k recordsOf) count-back
-      ∙ take_at (map record_of rowsIn) (replicate (s.most - length s.tree) 0) (length s.tree) (map-length rowsIn ∙ rows-length 0 s.tree)
+      ap (λ (k : ℕ). take k records_of) count-back
+      ∙ take_at (map record_of rows_in) (replicate (s.most - length s.tree) 0) (length s.tree) (map-length rows_in ∙ rows-length 0 s.tree)
 
-  pub records-length : length s.tree ≤ s.most → length recordsOf ≡ s.most
-  unfolding recordsOf
+  pub records-length : length s.tree ≤ s.most → length records_of ≡ s.most
+  unfolding records_of
   records-length h =
-      length-append (map record_of rowsIn) (replicate (s.most - length s.tree) 0)
-      ∙ omega (arith, map-length rowsIn, rows-length 0 s.tree, length-replicate {A = ℕ} (s.most - length s.tree) 0)
+      length-append (map record_of rows_in) (replicate (s.most - length s.tree) 0)
+      ∙ omega (arith, map-length rows_in, rows-length 0 s.tree, length-replicate {A = ℕ} (s.most - length s.tree) 0)
 
-  pub rows-read : Fit rowsIn → rows_of spell ≡ rowsIn
+  pub rows-read : Fit rows_in → rows_of spell ≡ rows_in
   unfolding bytes_of
   rows-read f =
       ap (λ (ws : List ℕ). rows ws bytes_of) live_back
-      ∙ ap (rows (map record_of rowsIn)) (append_assoc (name_text rowsIn) (replicate (s.room - (length (name_text rowsIn) + length joined)) 0) joined)
-      ∙ rows_back rowsIn (replicate (s.room - (length (name_text rowsIn) + length joined)) 0 ++ joined) f
+      ∙ ap (rows (map record_of rows_in)) (append_assoc (name_text rows_in) (replicate (s.room - (length (name_text rows_in) + length joined)) 0) joined)
+      ∙ rows_back rows_in (replicate (s.room - (length (name_text rows_in) + length joined)) 0 ++ joined) f
 
-  pub names-read : Fit rowsIn → name_total (live spell) ≡ length (name_text rowsIn)
-  names-read f = ap name_total live_back ∙ names-counted rowsIn f
+  pub names-read : Fit rows_in → name_total (live spell) ≡ length (name_text rows_in)
+  names-read f = ap name_total live_back ∙ names-counted rows_in f
 
   -- ---- slots
 
-  pub head-back : (k : ℕ) → k < slots_for s.most → get_or headsOf k 0 ≡ head_of (item s k)
-  unfolding headsOf
-  head-back k h = tab-at (λ i. head_of (item s i)) (slots_for s.most) k 0 h
+  pub head-back : (k : ℕ) → k < slots_for s.most → get_or heads_of k 0 ≡ head_of (item s k)
+  unfolding heads_of
+  head-back k h = tab_at (λ i. head_of (item s i)) (slots_for s.most) k 0 h
 
-  time-at : (k c i : ℕ) → k < slots_for s.most → c < 4 → i ≡ 4 * k + c → get_or timesOf i (pos 0) ≡ time_of (item s k).meta c
-  unfolding timesOf
+  time-at : (k c i : ℕ) → k < slots_for s.most → c < 4 → i ≡ 4 * k + c → get_or times_of i (pos 0) ≡ time_of (item s k).meta c
+  unfolding times_of
   time-at k c i h g e =
       let which : i / 4 ≡ k = omega arith in
       let left : i % 4 ≡ c = omega arith in
-      tab-at (λ j. time_of (item s (j / 4)).meta (j % 4)) (4 * slots_for s.most) i (pos 0) (omega arith)
+      tab_at (λ j. time_of (item s (j / 4)).meta (j % 4)) (4 * slots_for s.most) i (pos 0) (omega arith)
       ∙ ap (λ (j : ℕ). time_of (item s j).meta (i % 4)) which ∙ ap (time_of (item s k).meta) left
 
   module _ (o : Obeys s) where
@@ -204,7 +204,7 @@ module _ (s : State) where
     pub meta-back : (k : ℕ) → k < slots_for s.most → meta_at spell k ≡ (item s k).meta
     meta-back k h =
         let f = fits s o k in
-        let m : mode_of (get_or headsOf k 0) ≡ (item s k).meta.mode =
+        let m : mode_of (get_or heads_of k 0) ≡ (item s k).meta.mode =
         ap mode_of (head-back k h) ∙ head-mode (length (item s k).bytes) (item s k).kind (item s k).meta.mode f.length f.kind in
         let a = time-at k 0 (4 * k) h (omega arith) (omega arith) in
         let b = time-at k 1 (4 * k + 1) h (omega arith) refl in
@@ -212,31 +212,31 @@ module _ (s : State) where
         let d = time-at k 3 (4 * k + 3) h (omega arith) refl in
         λ i. record { mode = m i; accessed = a i; changed = b i; created = c i; modified = d i }
 
-    pub total-back : total headsOf ≡ length joined
-    unfolding headsOf joined
+    pub total-back : total heads_of ≡ length joined
+    unfolding heads_of joined
     total-back = total-joined (item s) (fits s o) (slots_for s.most) 0
 
     -- the byte storage behind the names and the gap
-    joined_back : drop (start headsOf bytes_of) bytes_of ≡ joined
+    joined_back : drop (start heads_of bytes_of) bytes_of ≡ joined
     unfolding bytes_of
     joined_back =
-        let left = name_text rowsIn ++ replicate (s.room - (length (name_text rowsIn) + length joined)) 0 in
-        drop_at left joined (start headsOf bytes_of) (omega (arith, total-back, length-append left joined))
+        let left = name_text rows_in ++ replicate (s.room - (length (name_text rows_in) + length joined)) 0 in
+        drop_at left joined (start heads_of bytes_of) (omega (arith, total-back, length-append left joined))
 
     pub bytes_back : (k : ℕ) → k < slots_for s.most → bytes_at spell k ≡ (item s k).bytes
     bytes_back k h =
-        ap (λ (x : Bytes). get_or (split headsOf x) k []) joined_back ∙ ap (λ (x : List Bytes). get_or x k []) splits ∙ tab-at (λ i. (item s i).bytes) (slots_for s.most) k [] h
+        ap (λ (x : Bytes). get_or (split heads_of x) k []) joined_back ∙ ap (λ (x : List Bytes). get_or x k []) splits ∙ tab_at (λ i. (item s i).bytes) (slots_for s.most) k [] h
       where
-        splits : split headsOf joined ≡ tab (λ i. (item s i).bytes) (slots_for s.most) 0
-        splits = unfold headsOf joined in split-back (item s) (fits s o) (slots_for s.most) 0
+        splits : split heads_of joined ≡ tab (λ i. (item s i).bytes) (slots_for s.most) 0
+        splits = unfold heads_of joined in split-back (item s) (fits s o) (slots_for s.most) 0
 
-    pub bytes-long : length bytes_of ≡ length (name_text rowsIn) + (s.room - (length (name_text rowsIn) + length joined)) + length joined
+    pub bytes-long : length bytes_of ≡ length (name_text rows_in) + (s.room - (length (name_text rows_in) + length joined)) + length joined
     unfolding bytes_of
     bytes-long =
-        let gap = s.room - (length (name_text rowsIn) + length joined) in
+        let gap = s.room - (length (name_text rows_in) + length joined) in
         omega (
           arith,
-          length-append (name_text rowsIn ++ replicate gap 0) joined,
-          length-append (name_text rowsIn) (replicate gap 0),
+          length-append (name_text rows_in ++ replicate gap 0) joined,
+          length-append (name_text rows_in) (replicate gap 0),
           length-replicate {A = ℕ} gap 0,
         )

@@ -151,8 +151,8 @@ module _ (s : State) (o : Obeys s) (kind : ℕ → ℕ) (n : ℕ) (few : n ≤ 6
     pub fit : Fit (rows_from 0 t)
 
   -- the first entry is the root: its directory would stand before it
-  first-root : (e : Path × Node) (es : Entries) → s.tree ≡ e ∷ es → Climbs e.0 es → e.0 ≡ []
-  first-root e es z c = go (path-dec e.0 [])
+  first_root : (e : Path × Node) (es : Entries) → s.tree ≡ e ∷ es → Climbs e.0 es → e.0 ≡ []
+  first_root e es z c = go (path-dec e.0 [])
     where
       there : look s.tree e.0 ≡ some e.1
       there = ap (λ (t : Entries). look t e.0) z ∙ look-here e es e.0 refl
@@ -170,7 +170,7 @@ module _ (s : State) (o : Obeys s) (kind : ℕ → ℕ) (n : ℕ) (few : n ≤ 6
   unfolding rows_from renamed rows_ok tree_from
   rows_of [] z a low c = record { ok = tt; tree = refl; fit = tt }
   rows_of (e ∷ es) z a low c =
-      let y = first-root e es z a in
+      let y = first_root e es z a in
       let at : look s.tree [] ≡ some e.1 = ap (λ (t : Entries). look t []) z ∙ look-here e es [] y in
       let m = o.root e.1 at in
       let kd : kind 0 ≡ 1 = c.0 ∙ ap kind_num m.1 in

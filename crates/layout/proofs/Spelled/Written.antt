@@ -18,7 +18,7 @@ use Rattle.layout.proofs.Worded.{head-length, record-depth, record-name, record-
 use Rattle.layout.proofs.Spelled.Fitting.{Fits}
 use Rattle.layout.proofs.Spelled.Items.{Item}
 use Rattle.layout.proofs.Spelled.Tracing.{Fit}
-use Rattle.layout.proofs.Spelled.Listed.{tab, tab-length, tab-at}
+use Rattle.layout.proofs.Spelled.Listed.{tab, tab-length, tab_at}
 
 -- ---- records and names
 
@@ -114,5 +114,5 @@ cell-back t i h l = ext_get_or 0 (take n (drop (1024 * i) all)) (t i) long same
     same j b =
         let c : j < n = omega (arith, long) in
         get_or-take n (drop (1024 * i) all) j 0 c ∙ get_or-drop (1024 * i) all j 0
-        ∙ tab-at (λ k. get_or (t (k / 1024)) (k % 1024) 0) 33792 (1024 * i + j) 0 (omega arith)
+        ∙ tab_at (λ k. get_or (t (k / 1024)) (k % 1024) 0) 33792 (1024 * i + j) 0 (omega arith)
         ∙ ap (λ (k : ℕ). get_or (t k) ((1024 * i + j) % 1024) 0) (omega arith) ∙ ap (λ (k : ℕ). get_or (t i) k 0) (omega arith)

@@ -21,7 +21,7 @@ use Rattle.model.proofs.Demand.Keeping.{kept-once, Empty}
 use Rattle.model.proofs.Demand.Over.{erase, file-inj, Paired, at_place, by_number, SameNumber, Over}
 use Rattle.model.proofs.Demand.Places.{Place, in_tree, in_hand, seen}
 use Rattle.model.proofs.Demand.Tidy.{Tidy, tidy-edit}
-use Rattle.model.proofs.Sound.Settled.{kept-some}
+use Rattle.model.proofs.Sound.Settled.{kept_some}
 use Rattle.model.proofs.Alike.States.{open-sym, alike-trans}
 use Rattle.model.proofs.Alike.Runs.{Even, even-edit, even-start, even-alike, even-asked}
 
@@ -62,8 +62,8 @@ module _ (s t : State) (o : Shaped s) (h : Alike s t) where
       both_files (look s.tree p) (look s.tree q)
       (h.names p q ∙ ((λ j. same_file (x j) (y j)) ∙ eq-eqb i i refl))
 
-  one-back : (p q : Path) (i : ℕ) → look t.tree p ≡ some (file i) → look t.tree q ≡ some (file i) → p ≡ q
-  one-back p q i x y = let b = back p q i x y in o.one_name p q b.0 b.1 b.2
+  one_back : (p q : Path) (i : ℕ) → look t.tree p ≡ some (file i) → look t.tree q ≡ some (file i) → p ≡ q
+  one_back p q i x y = let b = back p q i x y in o.one_name p q b.0 b.1 b.2
 
   shown-file : (p : Path) (i k : ℕ) → look t.tree p ≡ some (file i) → look s.tree p ≡ some (file k) → HasFile t.files i
   unfolding shown shown_node
@@ -101,9 +101,9 @@ pub left_shaped : (s x : State) (w : World) → Shaped s → Tidy w → Alike s 
 left_shaped s x w o d h = record {
   paths = d.tree;
   nodes = name_back s (state_of x w) o h;
-  one_name = one-back s (state_of x w) o h;
+  one_name = one_back s (state_of x w) o h;
   files = kept-once w.at w.opens w.files d.files;
-  used = λ i f e. (kept-some w.at w.opens w.files i f e).0;
+  used = λ i f e. (kept_some w.at w.opens w.files i f e).0;
   numbers = d.numbers;
   stands = number-back s (state_of x w) o h;
 }
@@ -137,7 +137,7 @@ module _ (s : State) (v : World) (d : Tidy v) (h : Empty v) (o : Shaped (state_o
     whole : file_of v.files i ≡ some of
 
   lives : (i : ℕ) → HasFile t.files i → Lives i
-  lives i f = record { of = f.0; left = f.1; whole = (kept-some v.at v.opens v.files i f.0 f.1).1 }
+  lives i f = record { of = f.0; left = f.1; whole = (kept_some v.at v.opens v.files i f.0 f.1).1 }
 
   -- the world with other files, and nothing in hand
   abbrev with : Entries → Files → World
@@ -181,8 +181,8 @@ module _ (s : State) (v : World) (d : Tidy v) (h : Empty v) (o : Shaped (state_o
       grounded = grounded;
     }
 
-  pub even-left : Even (world_of t) v
-  even-left = record {
+  pub even_left : Even (world_of t) v
+  even_left = record {
     over = over-left [] v.hand t.files v.files look_none h (λ i l. l.left) (λ i l. l.whole);
     back = over-left v.hand [] v.files t.files h look_none (λ i l. l.whole) (λ i l. l.left);
     tidy = shaped-tidy t o;
@@ -191,9 +191,9 @@ module _ (s : State) (v : World) (d : Tidy v) (h : Empty v) (o : Shaped (state_o
   }
 
   -- a question has the same answer in both
-  pub asked-left : (q : Ask) → answer q (world_of t) ≡ answer q v
-  asked-left q = even-asked q (world_of t) v even-left
+  pub asked_left : (q : Ask) → answer q (world_of t) ≡ answer q v
+  asked_left q = even-asked q (world_of t) v even_left
 
   -- and edits leave alike states of them
-  pub edits-left : (es : List Edit) → Alike (edited_by es t) (state_of s (applied es v))
-  edits-left es = even-alike t s refl refl (applied es (world_of t)) (applied es v) (even-edits es (world_of t) v even-left)
+  pub edits_left : (es : List Edit) → Alike (edited_by es t) (state_of s (applied es v))
+  edits_left es = even-alike t s refl refl (applied es (world_of t)) (applied es v) (even-edits es (world_of t) v even_left)

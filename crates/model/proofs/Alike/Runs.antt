@@ -25,15 +25,15 @@ use Rattle.model.proofs.Demand.Bounds.{any_bound}
 use Rattle.model.proofs.Demand.Contents.{kept-weigh}
 use Rattle.model.proofs.Demand.Calls.{Set, set-edit, joined, more_links, screen-alike}
 use Rattle.model.proofs.Entries.{clash, under_look, look_none, look-here}
-use Rattle.model.proofs.Demand.Joining.{shaped, shaped-over, shaped-tidy}
+use Rattle.model.proofs.Demand.Joining.{shaped, shaped_over, shaped-tidy}
 use Rattle.model.proofs.Demand.Keeping.{dropped, over_dropped, tidy-dropped, over_swept, tidy-swept, kept-kept}
 use Rattle.model.proofs.Demand.Over.{at_place, Over, excepts_edit}
 use Rattle.model.proofs.Demand.OverEdits.{Likes, dirs, files, both_links, likes, over_edit}
-use Rattle.model.proofs.Demand.Parting.{contents-apart, everything, same-open}
+use Rattle.model.proofs.Demand.Parting.{contents-apart, everything, same_open}
 use Rattle.model.proofs.Demand.Places.{in_tree}
-use Rattle.model.proofs.Demand.Spacing.{tree-has, total-length, total-names, last_name_lem, root-name, like-target}
+use Rattle.model.proofs.Demand.Spacing.{tree_has, total-length, total-names, last_name_lem, root-name, like-target}
 use Rattle.model.proofs.Demand.Tidy.{Tidy, tidy-edit}
-use Rattle.model.proofs.Demand.Totals.{total-has}
+use Rattle.model.proofs.Demand.Totals.{total_has}
 use Rattle.model.proofs.Demand.TwoRuns.{excepts_by, two_runs}
 use Rattle.model.proofs.Demand.TwoRuns.{Alike as BothEnd}
 use Rattle.model.proofs.Alike.States.{alike-sym, alike-used}
@@ -175,8 +175,8 @@ module _ (w v : World) (r : Over w v) (b : Over v w) where
   abbrev Here : Path → Type 0
   Here p = ((look w.at p ≡ none) × (look v.at p ≡ none)) ⊎ ((n m : Node) × (look w.at p ≡ some n) × (look v.at p ≡ some m) × Likes n m)
 
-  here-is : (p : Path) → Here p
-  here-is p = go (look w.at p) refl (look v.at p) refl
+  here_is : (p : Path) → Here p
+  here_is p = go (look w.at p) refl (look v.at p) refl
     where
       go : (x : Option Node) → look w.at p ≡ x → (y : Option Node) → look v.at p ≡ y → Here p
       go none e none f = inl (e, f)
@@ -198,7 +198,7 @@ module _ (w v : World) (r : Over w v) (b : Over v w) where
       go (no n) = ne_eqb i k n ∙ sym (ne_eqb j l (λ e. n (r.first i k l (at_place (in_tree p) x (y ∙ ap (λ (a : ℕ). some (file a)) e)) (at_place (in_tree q) z t))))
 
   same_names : (p q : Path) → same_file (look w.at p) (look w.at q) ≡ same_file (look v.at p) (look v.at q)
-  same_names p q = go (here-is p) (here-is q)
+  same_names p q = go (here_is p) (here_is q)
     where
       both : {n m c d : Node} → Likes n m → Likes c d → look w.at p ≡ some n → look v.at p ≡ some m → look w.at q ≡ some c → look v.at q ≡ some d
           → same_file (some n) (some c) ≡ same_file (some m) (some d)
@@ -219,8 +219,8 @@ pub even-start : (s u : State) → Shaped s → Shaped u → Alike s u → Even 
 even-start s u os ou h =
     let k = alike-sym s u h in
     record {
-      over = shaped-over s u os ou (λ p e x. sym (h.entries p) ∙ x) h.opens;
-      back = shaped-over u s ou os (λ p e x. sym (k.entries p) ∙ x) k.opens;
+      over = shaped_over s u os ou (λ p e x. sym (h.entries p) ∙ x) h.opens;
+      back = shaped_over u s ou os (λ p e x. sym (k.entries p) ∙ x) k.opens;
       tidy = shaped-tidy s os;
       tidy_too = shaped-tidy u ou;
       set = record { here = h.current; mask = h.umask };
@@ -245,8 +245,8 @@ module _ (s u : State) (lm : s.most ≡ u.most) (lr : s.room ≡ u.room) (w v : 
   tv : Tidy (world_of (state_of u v))
   tv = tidy-swept (dropped v) (tidy-dropped v e.tidy_too)
 
-  same-shown : (p : Path) → shown (state_of s w) p ≡ shown (state_of u v) p
-  same-shown p = at (shown (state_of s w) p) refl (shown (state_of u v) p) refl
+  same_shown : (p : Path) → shown (state_of s w) p ≡ shown (state_of u v) p
+  same_shown p = at (shown (state_of s w) p) refl (shown (state_of u v) p) refl
     where
       at : (a : _) → shown (state_of s w) p ≡ a → (b : _) → shown (state_of u v) p ≡ b → a ≡ b
       at none x none y = refl
@@ -256,9 +256,9 @@ module _ (s u : State) (lm : s.most ≡ u.most) (lr : s.room ≡ u.room) (w v : 
   pub even-alike : Alike (state_of s w) (state_of u v)
   unfolding one_file
   even-alike = record {
-    entries = same-shown;
+    entries = same_shown;
     names = same_names w v e.over e.back;
-    opens = same-open (state_of s w) (state_of u v) ow tw tv;
+    opens = same_open (state_of s w) (state_of u v) ow tw tv;
     current = e.set.here;
     umask = e.set.mask;
     entry_limit = lm;
@@ -279,16 +279,16 @@ module _ (s u : State) (lm : s.most ≡ u.most) (lr : s.room ≡ u.room) (w v : 
       arith,
       total-length w.at,
       total-length v.at,
-      total-has (λ p. 0) (λ n. 1) w.at v.at tw.tree tv.tree (tree-has (λ p. 0) (λ n. 1) refl (λ p x q. refl) (λ n m l. refl) w v e.over),
-      total-has (λ p. 0) (λ n. 1) v.at w.at tv.tree tw.tree (tree-has (λ p. 0) (λ n. 1) refl (λ p x q. refl) (λ n m l. refl) v w e.back),
+      total_has (λ p. 0) (λ n. 1) w.at v.at tw.tree tv.tree (tree_has (λ p. 0) (λ n. 1) refl (λ p x q. refl) (λ n m l. refl) w v e.over),
+      total_has (λ p. 0) (λ n. 1) v.at w.at tv.tree tw.tree (tree_has (λ p. 0) (λ n. 1) refl (λ p x q. refl) (λ n m l. refl) v w e.back),
     ),
     omega (
       arith,
       total-names w.at,
       total-names v.at,
       weighs,
-      total-has name_length target_length w.at v.at tw.tree tv.tree (tree-has name_length target_length root-name last_name_lem like-target w v e.over),
-      total-has name_length target_length v.at w.at tv.tree tw.tree (tree-has name_length target_length root-name last_name_lem like-target v w e.back),
+      total_has name_length target_length w.at v.at tw.tree tv.tree (tree_has name_length target_length root-name last_name_lem like-target w v e.over),
+      total_has name_length target_length v.at w.at tv.tree tw.tree (tree_has name_length target_length root-name last_name_lem like-target v w e.back),
     ),
   )
 

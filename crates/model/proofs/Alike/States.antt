@@ -17,29 +17,29 @@ use Rattle.model.specs.Alike.{same_file, one_file, Alike}
 use Rattle.model.specs.Shaped.{Shaped}
 use Rattle.model.proofs.Demand.Contents.{kept-weigh, at_named, named_at}
 use Rattle.model.proofs.Entries.{clash, some_inj, is_true, of_true, is_false, path-dec, path-equal, path-yes}
-use Rattle.model.proofs.Demand.Joining.{shaped-over, shaped-tidy}
+use Rattle.model.proofs.Demand.Joining.{shaped_over, shaped-tidy}
 use Rattle.model.proofs.Demand.Keeping.{kept_all}
 use Rattle.model.proofs.Demand.Parting.{contents-apart}
-use Rattle.model.proofs.Demand.Spacing.{tree-has, total-length, total-names, last_name_lem, root-name, like-target}
-use Rattle.model.proofs.Demand.Totals.{total-has}
+use Rattle.model.proofs.Demand.Spacing.{tree_has, total-length, total-names, last_name_lem, root-name, like-target}
+use Rattle.model.proofs.Demand.Totals.{total_has}
 
 -- a state with everything that another has, and the same open files, uses no less
 pub shaped-uses : (s u : State) → Shaped s → Shaped u → HasEverything s u → SameOpen s u → (entries_used s ≤ entries_used u) × (bytes_used s ≤ bytes_used u)
 shaped-uses s u os ou h o =
-    let r = shaped-over s u os ou h o in
+    let r = shaped_over s u os ou h o in
     let ts = shaped-tidy s os in
     let tu = shaped-tidy u ou in (
       omega (
         arith,
         total-length s.tree,
         total-length u.tree,
-        total-has (λ p. 0) (λ n. 1) s.tree u.tree ts.tree tu.tree (tree-has (λ p. 0) (λ n. 1) refl (λ p x q. refl) (λ n m l. refl) (world_of s) (world_of u) r),
+        total_has (λ p. 0) (λ n. 1) s.tree u.tree ts.tree tu.tree (tree_has (λ p. 0) (λ n. 1) refl (λ p x q. refl) (λ n m l. refl) (world_of s) (world_of u) r),
       ),
       omega (
         arith,
         total-names s.tree,
         total-names u.tree,
-        total-has name_length target_length s.tree u.tree ts.tree tu.tree (tree-has name_length target_length root-name last_name_lem like-target (world_of s) (world_of u) r),
+        total_has name_length target_length s.tree u.tree ts.tree tu.tree (tree_has name_length target_length root-name last_name_lem like-target (world_of s) (world_of u) r),
         contents-apart (world_of s) (world_of u) r ts tu,
         sym (kept-weigh s.tree s.opens s.files) ∙ ap contents_length (kept_all s.tree s.opens s.files os.files os.used),
         sym (kept-weigh u.tree u.opens u.files) ∙ ap contents_length (kept_all u.tree u.opens u.files ou.files ou.used),

@@ -13,7 +13,7 @@ use Rattle.model.specs.Prog.{World, Stat, Position, Ask, kind?, stat?, bytes?, t
 use Rattle.model.specs.Operations.{is_some}
 use Rattle.model.specs.Fuller.{misses, lacks_one, has_more, excepts_ask}
 use Rattle.model.proofs.Entries.{clash, name-dec, look-here, look_past, under_look, Apart, apart_under}
-use Rattle.model.proofs.Ordering.{named, named_here, named_past, Names, one-order}
+use Rattle.model.proofs.Ordering.{named, named_here, named_past, Names, one_order}
 use Rattle.model.proofs.Demand.Over.{at_place, Over, pair-number, lone-number}
 use Rattle.model.proofs.Demand.OverEdits.{Likes, dirs, files, both_links, likes, not_missed}
 use Rattle.model.proofs.Demand.Places.{in_tree}
@@ -180,7 +180,7 @@ module _ (w v : World) (r : Over w v) where
     list-alike : (p : Path) → has_more w v p ≡ false → listing w p ≡ listing v p
     unfolding listing has_more
     list-alike p e =
-        one-order (children w (under p w.at)) (children v (under p v.at))
+        one_order (children w (under p w.at)) (children v (under p v.at))
         (children-names w (under p w.at) (apart_under p w.at a)) (children-names v (under p v.at) (apart_under p v.at b))
         (λ x. shows w p x a ∙ two x (look w.at (p ++ (x ∷ []))) refl ∙ sym (shows v p x b))
       where

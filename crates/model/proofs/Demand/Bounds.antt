@@ -58,8 +58,8 @@ module _ (w v : World) where
       on (refused n) = refl
 
   -- the same part before both
-  twin-then : {A B : Type 0} (p : Prog A) (f g : A → Prog B) → Pure p → ((x : A) → Twin w v (f x) (g x)) → Twin w v (p >>= f) (p >>= g)
-  twin-then p f g h k = twin-bind p p f g h h (same p) k
+  twin_then : {A B : Type 0} (p : Prog A) (f g : A → Prog B) → Pure p → ((x : A) → Twin w v (f x) (g x)) → Twin w v (p >>= f) (p >>= g)
+  twin_then p f g h k = twin-bind p p f g h h (same p) k
 
   -- an answer behind both
   twin-end : {A B : Type 0} (p q : Prog A) (f : A → B) → Twin w v p q → Twin w v (p >>= λ x. ret (f x)) (q >>= λ x. ret (f x))
@@ -89,27 +89,27 @@ module _ (a b : ℕ) (w v : World) (ha : links_in w.at ≤ a) (hb : links_in w.a
   unfolding O.directory
   twin-directory p = twin-led p _
 
-  twin-lastEntry : (p : Path) → Twin w v (O.last_entry a p) (O.last_entry b p)
+  twin-last_entry : (p : Path) → Twin w v (O.last_entry a p) (O.last_entry b p)
   unfolding O.last_entry
-  twin-lastEntry p =
-      twin-then w v _ _ _ (pure-parted p) λ l.
+  twin-last_entry p =
+      twin_then w v _ _ _ (pure-parted p) λ l.
       twin-bind w v _ _ _ _ (pure-directory a l.before) (pure-directory b l.before) (twin-directory l.before) λ d. same w v _
 
   -- the entry of a last name, and what follows
-  twin-last : {B : Type 0} (p : Path) (f : Where → Prog B) → Twin w v (O.last_entry a p >>= f) (O.last_entry b p >>= f)
-  twin-last p f = twin-bind w v _ _ f f (pure-last_entry a p) (pure-last_entry b p) (twin-lastEntry p) λ x. same w v _
+  twin_last : {B : Type 0} (p : Path) (f : Where → Prog B) → Twin w v (O.last_entry a p >>= f) (O.last_entry b p >>= f)
+  twin_last p f = twin-bind w v _ _ f f (pure-last_entry a p) (pure-last_entry b p) (twin-last_entry p) λ x. same w v _
 
-  twin-openWalk : (p : Path) → Twin w v (O.open_walk a p) (O.open_walk b p)
+  twin-open_walk : (p : Path) → Twin w v (O.open_walk a p) (O.open_walk b p)
   unfolding O.open_walk
-  twin-openWalk p = twin-look p _ _ λ x. same w v _
+  twin-open_walk p = twin-look p _ _ λ x. same w v _
 
-  twin-sourceAt : (p : Path) → Twin w v (O.source_at a p) (O.source_at b p)
+  twin-source_at : (p : Path) → Twin w v (O.source_at a p) (O.source_at b p)
   unfolding O.source_at
-  twin-sourceAt p = twin-bind w v _ _ _ _ (pure-open_walk a p) (pure-open_walk b p) (twin-openWalk p) λ x. same w v _
+  twin-source_at p = twin-bind w v _ _ _ _ (pure-open_walk a p) (pure-open_walk b p) (twin-open_walk p) λ x. same w v _
 
-  twin-writeTo : (t : Time) (s : Bytes) (p : Path) → Twin w v (O.write_to a t s p) (O.write_to b t s p)
+  twin-write_to : (t : Time) (s : Bytes) (p : Path) → Twin w v (O.write_to a t s p) (O.write_to b t s p)
   unfolding O.write_to
-  twin-writeTo t s p = twin-bind w v _ _ _ _ (pure-open_walk a p) (pure-open_walk b p) (twin-openWalk p) λ x. same w v _
+  twin-write_to t s p = twin-bind w v _ _ _ _ (pure-open_walk a p) (pure-open_walk b p) (twin-open_walk p) λ x. same w v _
 
   twin-metadata : (lent : ℕ) (p : Path) → Twin w v (O.metadata_at a lent p) (O.metadata_at b lent p)
   unfolding O.metadata_at
@@ -118,11 +118,11 @@ module _ (a b : ℕ) (w v : World) (ha : links_in w.at ≤ a) (hb : links_in w.a
   -- a path, or two, made absolute
   twin-path : (s : Bytes) (f g : Path → Prog Reply) → ((p : Path) → Twin w v (f p) (g p)) → Twin w v (O.on_path s f) (O.on_path s g)
   unfolding O.on_path
-  twin-path s f g k = twin-then w v _ _ _ (pure-absolute s) k
+  twin-path s f g k = twin_then w v _ _ _ (pure-absolute s) k
 
   twin-paths : (s d : Bytes) (f g : Path → Path → Prog Reply) → ((p q : Path) → Twin w v (f p q) (g p q)) → Twin w v (O.on_paths s d f) (O.on_paths s d g)
   unfolding O.on_paths
-  twin-paths s d f g k = twin-then w v _ _ _ (pure-absolute s) λ p. twin-then w v _ _ _ (pure-absolute d) λ q. k p q
+  twin-paths s d f g k = twin_then w v _ _ _ (pure-absolute s) λ p. twin_then w v _ _ _ (pure-absolute d) λ q. k p q
 
 -- rename's lookup after the old entry is out
 twin-take : (a b : ℕ) (w v : World) → links_in w.at ≤ a → links_in w.at ≤ b → (old : Path) (new : Parted) (t : Time)
@@ -139,13 +139,13 @@ module _ (a b : ℕ) (w v : World) (ha : links_in w.at ≤ a) (hb : links_in w.a
   twin-apart : (t : Time) (p q : Path) → Twin w v (O.rename_apart a t p q) (O.rename_apart b t p q)
   unfolding O.rename_apart ◌>>◌
   twin-apart t p q =
-      twin-then w v _ _ _ (pure-parted p) λ _.
-      twin-then w v _ _ _ (pure-parted q) λ m.
+      twin_then w v _ _ _ (pure-parted p) λ _.
+      twin_then w v _ _ _ (pure-parted q) λ m.
       twin-bind w v _ _ _ _ (pure-leads a p) (pure-leads b p) (twin-leads a b w v ha hb p) λ x.
-      twin-then w v _ _ _ (pure-need _ 11) λ _.
+      twin_then w v _ _ _ (pure-need _ 11) λ _.
       twin-look a b w v ha hb q _ _ λ y.
-      twin-then w v _ _ _ (pure-replaces x.kind y.path y.kind) λ _.
-      twin-bind w v _ _ _ _ (pure-last_entry a p) (pure-last_entry b p) (twin-lastEntry a b w v ha hb p) λ o.
+      twin_then w v _ _ _ (pure-replaces x.kind y.path y.kind) λ _.
+      twin-bind w v _ _ _ _ (pure-last_entry a p) (pure-last_entry b p) (twin-last_entry a b w v ha hb p) λ o.
       twin-end w v (O.take_then_make a o.path m t) (O.take_then_make b o.path m t) _ (twin-take a b w v ha hb o.path m t)
 
   twin-rename : (e : Bool) (t : Time) (p q : Path) → Twin w v (O.rename_by e a t p q) (O.rename_by e b t p q)
@@ -156,37 +156,37 @@ module _ (a b : ℕ) (w v : World) (ha : links_in w.at ≤ a) (hb : links_in w.a
   -- every call
   twins : (o : Op) → Twin w v (program a o) (program b o)
   unfolding program O.on_given O.on_raw O.canonicalize_at O.set_current_dir_at O.create_dir_at O.open_at O.read_at O.write_at O.copy_at O.hard_link_at O.link_at O.remove_at O.rename_at O.set_permissions_at O.set_times_at O.list_at O.metadata_on ◌>>◌
-  twins (Calls.canonicalize s k) = twin-then w v _ _ _ (pure-need (not (is_nil s)) 8) λ _. twin-path a b w v ha hb s _ _ λ p. twin-led a b w v ha hb p _
-  twins (Calls.set_current_dir s) = twin-then w v _ _ _ (pure-need (not (is_nil s)) 8) λ _. twin-path a b w v ha hb s _ _ λ p. twin-led a b w v ha hb p _
+  twins (Calls.canonicalize s k) = twin_then w v _ _ _ (pure-need (not (is_nil s)) 8) λ _. twin-path a b w v ha hb s _ _ λ p. twin-led a b w v ha hb p _
+  twins (Calls.set_current_dir s) = twin_then w v _ _ _ (pure-need (not (is_nil s)) 8) λ _. twin-path a b w v ha hb s _ _ λ p. twin-led a b w v ha hb p _
   twins (Calls.set_umask m) = same w v _
   twins (Calls.create_dir s t) = twin-path a b w v ha hb s _ _ λ p. twin-look a b w v ha hb p _ _ λ x. same w v _
   twins (Calls.open_file n s f m t) =
       twin-path a b w v ha hb s _ _ λ p.
-      twin-bind w v _ _ _ _ (pure-open_walk a p) (pure-open_walk b p) (twin-openWalk a b w v ha hb p) λ x. same w v _
+      twin-bind w v _ _ _ _ (pure-open_walk a p) (pure-open_walk b p) (twin-open_walk a b w v ha hb p) λ x. same w v _
   twins (Calls.read_file s k) =
       twin-path a b w v ha hb s _ _ λ p.
-      twin-bind w v _ _ _ _ (pure-source_at a p) (pure-source_at b p) (twin-sourceAt a b w v ha hb p) λ x. same w v _
-  twins (Calls.write_file s d t) = twin-path a b w v ha hb s _ _ λ p. twin-end w v _ _ _ (twin-writeTo a b w v ha hb t d p)
+      twin-bind w v _ _ _ _ (pure-source_at a p) (pure-source_at b p) (twin-source_at a b w v ha hb p) λ x. same w v _
+  twins (Calls.write_file s d t) = twin-path a b w v ha hb s _ _ λ p. twin-end w v _ _ _ (twin-write_to a b w v ha hb t d p)
   twins (Calls.copy_file s d t) =
       twin-paths a b w v ha hb s d _ _ λ p q.
-      twin-bind w v _ _ _ _ (pure-source_at a p) (pure-source_at b p) (twin-sourceAt a b w v ha hb p) λ f.
-      twin-end w v _ _ _ (twin-writeTo a b w v ha hb t f.bytes q)
+      twin-bind w v _ _ _ _ (pure-source_at a p) (pure-source_at b p) (twin-source_at a b w v ha hb p) λ f.
+      twin-end w v _ _ _ (twin-write_to a b w v ha hb t f.bytes q)
   twins (Calls.hard_link s d t) =
       twin-paths a b w v ha hb s d _ _ λ p q.
       twin-bind w v _ _ _ _ (pure-leads a p) (pure-leads b p) (twin-leads a b w v ha hb p) λ e.
-      twin-then w v _ _ _ (pure-only_file e.kind) λ _.
-      twin-then w v _ _ _ (pure-ask (bytes? e.path)) λ f.
-      twin-end w v _ _ _ (twin-writeTo a b w v ha hb t (text_or f) q)
-  twins (Calls.link_file g s t) = twin-path a b w v ha hb s _ _ λ p. twin-last a b w v ha hb p _
-  twins (Calls.remove_file s) = twin-path a b w v ha hb s _ _ λ p. twin-last a b w v ha hb p _
-  twins (Calls.remove_dir s) = twin-path a b w v ha hb s _ _ λ p. twin-last a b w v ha hb p _
-  twins (Calls.remove_tree s) = twin-path a b w v ha hb s _ _ λ p. twin-last a b w v ha hb p _
+      twin_then w v _ _ _ (pure-only_file e.kind) λ _.
+      twin_then w v _ _ _ (pure-ask (bytes? e.path)) λ f.
+      twin-end w v _ _ _ (twin-write_to a b w v ha hb t (text_or f) q)
+  twins (Calls.link_file g s t) = twin-path a b w v ha hb s _ _ λ p. twin_last a b w v ha hb p _
+  twins (Calls.remove_file s) = twin-path a b w v ha hb s _ _ λ p. twin_last a b w v ha hb p _
+  twins (Calls.remove_dir s) = twin-path a b w v ha hb s _ _ λ p. twin_last a b w v ha hb p _
+  twins (Calls.remove_tree s) = twin-path a b w v ha hb s _ _ λ p. twin_last a b w v ha hb p _
   twins (Calls.rename s d t) = twin-paths a b w v ha hb s d _ _ λ p q. twin-rename (same_path p q) t p q
   twins (Calls.metadata s r) = twin-path a b w v ha hb s _ _ λ p. twin-metadata a b w v ha hb r p
   twins (Calls.symlink_metadata s r) = same w v _
   twins (Calls.read_link s k) = same w v _
   twins (Calls.set_permissions s m) = twin-path a b w v ha hb s _ _ λ p. twin-led a b w v ha hb p _
-  twins (Calls.set_times s f g) = twin-then w v _ _ _ (pure-need (is_absolute s) 8) λ _. twin-led a b w v ha hb _ _
+  twins (Calls.set_times s f g) = twin_then w v _ _ _ (pure-need (is_absolute s) 8) λ _. twin-led a b w v ha hb _ _
   twins (Calls.list s k r) = twin-path a b w v ha hb s _ _ λ p. twin-led a b w v ha hb p _
   twins (Calls.close_number n) = same w v _
   twins (Calls.read_number n k) = same w v _
@@ -194,7 +194,7 @@ module _ (a b : ℕ) (w v : World) (ha : links_in w.at ≤ a) (hb : links_in w.a
   twins (Calls.set_length n k) = same w v _
   twins (Calls.set_mode_number n m) = same w v _
   twins (Calls.set_times_number n f c d) = same w v _
-  twins (Calls.metadata_number n r) = twin-then w v _ _ _ (pure-ask (open? n)) λ o. twin-metadata a b w v ha hb r _
+  twins (Calls.metadata_number n r) = twin_then w v _ _ _ (pure-ask (open? n)) λ o. twin-metadata a b w v ha hb r _
 
 -- any two bounds from the number of links on
 pub any_bound : (o : Op) (a b : ℕ) (w : World) → links_in w.at ≤ a → links_in w.at ≤ b → run (program a o) w ≡ run (program b o) w

@@ -29,11 +29,11 @@ use Rattle.model.proofs.Demand.Steady.{steady, by_questions}
 use Rattle.model.proofs.Lookups.LinkCount.{links_of, links_within}
 use Rattle.model.proofs.Demand.Over.{Over, SameNumber, excepts_edit}
 use Rattle.model.proofs.Demand.OverEdits.{Likes, dirs, files, both_links as linked, likes, over_edit}
-use Rattle.model.proofs.Demand.Parting.{contents-apart, everything, same-open}
+use Rattle.model.proofs.Demand.Parting.{contents-apart, everything, same_open}
 use Rattle.model.proofs.Demand.Places.{in_tree, in_hand}
-use Rattle.model.proofs.Demand.Spacing.{Top, weight, weight-edit, top-edit, hand-has, total-length, total-names, last_name_lem, root-name, like-target}
+use Rattle.model.proofs.Demand.Spacing.{Top, weight, weight-edit, top-edit, hand_has, total-length, total-names, last_name_lem, root-name, like-target}
 use Rattle.model.proofs.Demand.Tidy.{Tidy, tidy-edit}
-use Rattle.model.proofs.Demand.Totals.{total, total-has}
+use Rattle.model.proofs.Demand.Totals.{total, total_has}
 use Rattle.path.proofs.Following.{or-false}
 use Rattle.model.proofs.Demand.TwoRuns.{Alike, two_runs}
 
@@ -73,7 +73,7 @@ fuller s u j =
     record {
       current = j.current;
       umask = j.umask;
-      opens = same-open s u j.over j.tidy j.tidy_too;
+      opens = same_open s u j.over j.tidy j.tidy_too;
       everything = everything s u j.over j.tidy j.tidy_too;
       entries = j.entries;
       bytes = j.bytes;
@@ -192,8 +192,8 @@ running-start s u j =
 -- ---- a call's end
 
 module _ (s u : State) (j : Joined s u) (w v : World) (r : Running s u w v) where
-  over-end : Over (dropped w) (dropped v)
-  over-end = over_dropped w v r.over
+  over_end : Over (dropped w) (dropped v)
+  over_end = over_dropped w v r.over
 
   -- the second's entries have grown by no more
   entries-end : length v.at + length s.tree ≤ length w.at + length u.tree
@@ -203,7 +203,7 @@ module _ (s u : State) (j : Joined s u) (w v : World) (r : Running s u w v) wher
         r.entries,
         total-length w.at,
         total-length v.at,
-        total-has (λ p. 0) (λ n. 1) w.hand v.hand r.tidy.hand r.tidy_too.hand (hand-has (λ p. 0) (λ n. 1) refl (λ p x q. refl) (λ n m l. refl) w v r.over),
+        total_has (λ p. 0) (λ n. 1) w.hand v.hand r.tidy.hand r.tidy_too.hand (hand_has (λ p. 0) (λ n. 1) refl (λ p x q. refl) (λ n m l. refl) w v r.over),
       )
 
   names-end : names_and_targets v.at + names_and_targets s.tree ≤ names_and_targets w.at + names_and_targets u.tree
@@ -213,7 +213,7 @@ module _ (s u : State) (j : Joined s u) (w v : World) (r : Running s u w v) wher
         r.names,
         total-names w.at,
         total-names v.at,
-        total-has name_length target_length w.hand v.hand r.tidy.hand r.tidy_too.hand (hand-has name_length target_length root-name last_name_lem like-target w v r.over),
+        total_has name_length target_length w.hand v.hand r.tidy.hand r.tidy_too.hand (hand_has name_length target_length root-name last_name_lem like-target w v r.over),
       )
 
   -- the files that only the second has are among those before
@@ -234,7 +234,7 @@ module _ (s u : State) (j : Joined s u) (w v : World) (r : Running s u w v) wher
         arith,
         kept-weigh v.at v.opens v.files,
         kept-weigh w.at w.opens w.files,
-        contents-apart (dropped w) (dropped v) over-end (tidy-dropped w r.tidy) (tidy-dropped v r.tidy_too),
+        contents-apart (dropped w) (dropped v) over_end (tidy-dropped w r.tidy) (tidy-dropped v r.tidy_too),
         contents-apart (world_of s) (world_of u) j.over j.tidy j.tidy_too,
         only_end,
         sym (kept-weigh s.tree s.opens s.files) ∙ ap contents_length j.all,
@@ -250,7 +250,7 @@ module _ (s u : State) (j : Joined s u) (w v : World) (r : Running s u w v) wher
     joined_end : Joined (state_of s w) (state_of u v)
     joined_end =
         record {
-          over = over_swept (dropped w) (dropped v) look_none look_none over-end;
+          over = over_swept (dropped w) (dropped v) look_none look_none over_end;
           tidy = tidy-swept (dropped w) (tidy-dropped w r.tidy);
           tidy_too = tidy-swept (dropped v) (tidy-dropped v r.tidy_too);
           current = r.set.here;

@@ -94,9 +94,9 @@ shaped s o = record { paths = o.paths; nodes = λ p i e. o.nodes p (file i) e; o
 -- ---- two states
 
 module _ (s u : State) (os : Shaped s) (ou : Shaped u) (every : HasEverything s u) (same : SameOpen s u) where
-  at-alike : (p : Path) (n : Node) → look s.tree p ≡ some n → (m : Node) × (look u.tree p ≡ some m) × Seen s u n m
+  at_alike : (p : Path) (n : Node) → look s.tree p ≡ some n → (m : Node) × (look u.tree p ≡ some m) × Seen s u n m
   unfolding shown
-  at-alike p n k =
+  at_alike p n k =
       let h = shown_some s n (λ i e. os.nodes p i (k ∙ ap some e)) in
       go (look u.tree p) refl h.0 h.1
       (every p h.0 (ap (λ (o : Option Node). on_some o (shown_node s)) k ∙ h.1))
@@ -143,23 +143,23 @@ module _ (s u : State) (os : Shaped s) (ou : Shaped u) (every : HasEverything s 
       ∙ same.sharing n m
       ∙ (ap (λ (o : Option Open). same_id o (open_of u.opens m)) z ∙ ap (λ (o : Option Open). same_id (some c) o) t)
 
-  one-first : (i k j : ℕ) → Pair i j → Pair k j → i ≡ k
-  one-first i k j (standing p x y) (standing q z t) = file-inj (some_inj (sym x ∙ ap (look s.tree) (ou.one_name p q j y t) ∙ z))
-  one-first i k j (standing p x y) (removed n a b f z t c d e g l m) = nameless u.tree p j y g
-  one-first i k j (removed n a b f z t c d e g l m) (standing p x y) = nameless u.tree p j y g
-  one-first i k j (removed n a b f x y p q e g l r) (removed m c d h z t v w o ρ σ τ) =
+  one_first : (i k j : ℕ) → Pair i j → Pair k j → i ≡ k
+  one_first i k j (standing p x y) (standing q z t) = file-inj (some_inj (sym x ∙ ap (look s.tree) (ou.one_name p q j y t) ∙ z))
+  one_first i k j (standing p x y) (removed n a b f z t c d e g l m) = nameless u.tree p j y g
+  one_first i k j (removed n a b f z t c d e g l m) (standing p x y) = nameless u.tree p j y g
+  one_first i k j (removed n a b f x y p q e g l r) (removed m c d h z t v w o ρ σ τ) =
       sym p ∙ eqb-true a.id c.id (shared n m a c b d x z y t ∙ eq-eqb b.id d.id (q ∙ sym w)) ∙ v
 
-  one-second : (i j k : ℕ) → Pair i j → Pair i k → j ≡ k
-  one-second i j k (standing p x y) (standing q z t) = file-inj (some_inj (sym y ∙ ap (look u.tree) (os.one_name p q i x z) ∙ t))
-  one-second i j k (standing p x y) (removed n a b f z t c d e g l m) = nameless s.tree p i x e
-  one-second i j k (removed n a b f z t c d e g l m) (standing p x y) = nameless s.tree p i x e
-  one-second i j k (removed n a b f x y p q e g l r) (removed m c d h z t v w o ρ σ τ) =
+  one_second : (i j k : ℕ) → Pair i j → Pair i k → j ≡ k
+  one_second i j k (standing p x y) (standing q z t) = file-inj (some_inj (sym y ∙ ap (look u.tree) (os.one_name p q i x z) ∙ t))
+  one_second i j k (standing p x y) (removed n a b f z t c d e g l m) = nameless s.tree p i x e
+  one_second i j k (removed n a b f z t c d e g l m) (standing p x y) = nameless s.tree p i x e
+  one_second i j k (removed n a b f x y p q e g l r) (removed m c d h z t v w o ρ σ τ) =
       sym q ∙ eqb-true b.id d.id (sym (shared n m a c b d x z y t) ∙ eq-eqb a.id c.id (p ∙ sym v)) ∙ w
 
   same-file : (i j : ℕ) → Pair i j → (f : File) × (file_of s.files i ≡ some f) × (file_of u.files j ≡ some f)
   same-file i j (standing p x y) =
-      let h = at-alike p (file i) x in
+      let h = at_alike p (file i) x in
       h.2.same i j refl (some_inj (sym h.1 ∙ y))
   same-file i j (removed n a b f x y p q e g l r) = (f, l, r)
 
@@ -181,20 +181,20 @@ module _ (s u : State) (os : Shaped s) (ou : Shaped u) (every : HasEverything s 
       go (some a) (some b) e =
           (ap (λ (p : Position). p.pos) (some_inj e), ap (λ (p : Position). p.kept) (some_inj e))
 
-  pub shaped-over : Over (world_of s) (world_of u)
-  shaped-over =
+  pub shaped_over : Over (world_of s) (world_of u)
+  shaped_over =
       record {
         has = has;
         numbers = number-alike;
         alike = λ i j p. same-file i j (pair_of i j p);
-        first = λ i k j p q. one-first i k j (pair_of i j p) (pair_of k j q);
-        second = λ i j k p q. one-second i j k (pair_of i j p) (pair_of i k q);
+        first = λ i k j p q. one_first i k j (pair_of i j p) (pair_of k j q);
+        second = λ i j k p q. one_second i j k (pair_of i j p) (pair_of i k q);
         covers = λ i j p pl e. covers i j (pair_of i j p) pl e;
         grounded = grounded;
       }
     where
       has : (pl : Place) (n : Node) → seen (world_of s) pl ≡ some n → (m : Node) × (seen (world_of u) pl ≡ some m) × (erase n ≡ erase m)
-      has (in_tree p) n k = let h = at-alike p n k in (h.0, h.1, h.2.like)
+      has (in_tree p) n k = let h = at_alike p n k in (h.0, h.1, h.2.like)
       has (in_hand p) n k = clash (look [] p) n (look_none p) k
 
       covers : (i j : ℕ) → Pair i j → (pl : Place) → seen (world_of u) pl ≡ some (file j) → seen (world_of s) pl ≡ some (file i)
@@ -209,7 +209,7 @@ pub shaped-tidy : (s : State) → Shaped s → Tidy (world_of s)
 shaped-tidy s o = record { tree = o.paths; hand = tt; files = o.files; numbers = o.numbers }
 
 pub start_over : (s u : State) → Obeys s → Obeys u → HasEverything s u → SameOpen s u → Over (world_of s) (world_of u)
-start_over s u os ou e o = shaped-over s u (shaped s os) (shaped u ou) e o
+start_over s u os ou e o = shaped_over s u (shaped s os) (shaped u ou) e o
 
 pub start-tidy : (s : State) → Obeys s → Tidy (world_of s)
 start-tidy s o = shaped-tidy s (shaped s o)

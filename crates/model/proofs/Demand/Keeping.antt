@@ -14,7 +14,7 @@ use Rattle.model.specs.Calls.{is_named, is_held, kept_files}
 use Rattle.model.specs.Rules.{Once, new_file}
 use Rattle.model.proofs.Demand.Contents.{or_left, or_right, at_named, by_held}
 use Rattle.model.proofs.Entries.{clash, is_true}
-use Rattle.model.proofs.Demand.Over.{Paired, at_place, by_number, Over, NoNewFile, over-moved}
+use Rattle.model.proofs.Demand.Over.{Paired, at_place, by_number, Over, NoNewFile, over_moved}
 use Rattle.model.proofs.Demand.Places.{Place, in_tree, in_hand, seen, drop_origin, drop-moved}
 use Rattle.model.proofs.Demand.Tidy.{Tidy}
 use native.Mathlib.Omega.{arith}
@@ -83,7 +83,7 @@ dropped w = record { at = w.at; hand = []; files = w.files; opens = w.opens; her
 
 pub over_dropped : (w v : World) → Over w v → Over (dropped w) (dropped v)
 over_dropped w v r =
-    over-moved w v (dropped w) (dropped v) drop_origin (drop-moved w.at w.hand) (drop-moved v.at v.hand) drop_no_new refl refl refl refl r
+    over_moved w v (dropped w) (dropped v) drop_origin (drop-moved w.at w.hand) (drop-moved v.at v.hand) drop_no_new refl refl refl refl r
 
 pub tidy-dropped : (w : World) → Tidy w → Tidy (dropped w)
 tidy-dropped w t = record { tree = t.tree; hand = tt; files = t.files; numbers = t.numbers }

@@ -110,8 +110,8 @@ module _ (w v w' v' : World) (o : Place → Origin) (mw : Moved o w.at w.hand w'
   pair-back i j (by_number n a b x y p q) =
       by_number n a b (ap (λ (l : List Open). open_of l n) (sym ow) ∙ x) (ap (λ (l : List Open). open_of l n) (sym ov) ∙ y) p q
 
-  has-moved : (pl : Place) (n : Node) → seen w' pl ≡ some n → (m : Node) × (seen v' pl ≡ some m) × (erase n ≡ erase m)
-  has-moved pl n e = go (o pl) refl
+  has_moved : (pl : Place) (n : Node) → seen w' pl ≡ some n → (m : Node) × (seen v' pl ≡ some m) × (erase n ≡ erase m)
+  has_moved pl n e = go (o pl) refl
     where
       go : (x : Origin) → o pl ≡ x → (m : Node) × (seen v' pl ≡ some m) × (erase n ≡ erase m)
       go (old q) k =
@@ -127,10 +127,10 @@ module _ (w v w' v' : World) (o : Place → Origin) (mw : Moved o w.at w.hand w'
       let t = traced v v' o mv no-new pl j e in
       mw pl ∙ ap (λ (y : Origin). comes y (seen w)) t.1 ∙ r.covers i j p t.0 t.2
 
-  pub over-moved : Over w' v'
-  over-moved =
+  pub over_moved : Over w' v'
+  over_moved =
       record {
-        has = has-moved;
+        has = has_moved;
         numbers = λ n. subst (λ (l : List Open). SameNumber (open_of w'.opens n) (open_of l n)) (sym ov) (subst (λ (l : List Open). SameNumber (open_of l n) (open_of v.opens n)) (sym ow) (r.numbers n));
         alike = λ i j p.
             let h = r.alike i j (pair-back i j p) in

@@ -17,7 +17,7 @@ use Rattle.model.specs.Fuller.{misses}
 use Rattle.model.specs.Shaped.{HasFile}
 use Rattle.model.proofs.Entries.{clash, some_inj, path-dec, put-here, put_past}
 use Rattle.model.proofs.Demand.Places.{Place, in_tree, in_hand, seen, old, new, gone, pick_origin, by_behind, put_origin, put-moved, cut_origin, cut_moved, take_origin, take-moved, give_origin, give-moved, stay_origin, stay-moved}
-use Rattle.model.proofs.Demand.Over.{erase, file-inj, Paired, at_place, by_number, SameNumber, Over, pair-number, lone-number, NoNewFile, over-moved, excepts_edit}
+use Rattle.model.proofs.Demand.Over.{erase, file-inj, Paired, at_place, by_number, SameNumber, Over, pair-number, lone-number, NoNewFile, over_moved, excepts_edit}
 
 -- ---- the table of files
 
@@ -110,8 +110,8 @@ module _ (w v : World) (os us : List Open) (r : Over w v) (same : (n : ℕ) → 
   pair-opens i j (at_place pl a b) = at_place pl a b
   pair-opens i j (by_number n a b x y p q) = subst (λ (k : ℕ). Paired w v i k) q (subst (λ (k : ℕ). Paired w v k b.id) p (back n a b x y))
 
-  pub over-opens : Over (with_opens w os) (with_opens v us)
-  over-opens =
+  pub over_opens : Over (with_opens w os) (with_opens v us)
+  over_opens =
       record {
         has = r.has;
         numbers = same;
@@ -220,7 +220,7 @@ link_no_file m s i e = let z : ◌≡◌ {A = ℕ} 0 1 = cc in omega arith
 -- a node that is no file put in both
 over_put : (w v : World) (p : Path) (n : Node) → ((i : ℕ) → n ≡ file i → ⊥) → Over w v → Over (with_tree w (put p n w.at)) (with_tree v (put p n v.at))
 over_put w v p n h r =
-    over-moved w v (with_tree w (put p n w.at)) (with_tree v (put p n v.at)) (put_origin p n) (put-moved p n w.at w.hand) (put-moved p n v.at v.hand)
+    over_moved w v (with_tree w (put p n w.at)) (with_tree v (put p n v.at)) (put_origin p n) (put-moved p n w.at w.hand) (put-moved p n v.at v.hand)
     (put_no_new p n h) refl refl refl refl r
 
 -- nothing but the current directory or the umask is changed
@@ -228,7 +228,7 @@ over_stay : (w v : World) (h k : Path) (a b : ℕ) → Over w v
     → Over (record { at = w.at; hand = w.hand; files = w.files; opens = w.opens; here = h; mask = a })
     (record { at = v.at; hand = v.hand; files = v.files; opens = v.opens; here = k; mask = b })
 over_stay w v h k a b r =
-    over-moved w v (record { at = w.at; hand = w.hand; files = w.files; opens = w.opens; here = h; mask = a })
+    over_moved w v (record { at = w.at; hand = w.hand; files = w.files; opens = w.opens; here = h; mask = a })
     (record { at = v.at; hand = v.hand; files = v.files; opens = v.opens; here = k; mask = b })
     stay_origin (stay-moved w.at w.hand) (stay-moved v.at v.hand) stay_no_new refl refl refl refl r
 
@@ -262,8 +262,8 @@ likes (link a s) (link b t) e =
     subst (λ (d : Meta). Likes (link a s) (link d t)) z (subst (λ (d : Bytes). Likes (link a s) (link a d)) q (both_links a s))
 
 module _ (w v : World) (r : Over w v) where
-  over-change : (p : Path) (c : Change) → misses w v p ≡ false → Over (change_at w p c (look w.at p)) (change_at v p c (look v.at p))
-  over-change p c e = go (look w.at p) refl
+  over_change : (p : Path) (c : Change) → misses w v p ≡ false → Over (change_at w p c (look w.at p)) (change_at v p c (look v.at p))
+  over_change p c e = go (look w.at p) refl
     where
       at : {n m : Node} → Likes n m → look w.at p ≡ some n → look v.at p ≡ some m → Over (change_at w p c (some n)) (change_at v p c (some m))
       at (dirs a) x y = over_put w v p (dir (change_meta c a)) (dir_no_file _) r
@@ -275,11 +275,11 @@ module _ (w v : World) (r : Over w v) where
       go (some n) k = let h = r.has (in_tree p) n k in rw h.1 (at (likes n h.0 h.2) k h.1)
 
   -- a number opened on the file at a path
-  over-open : (n : ℕ) (p : Path) (k : ℕ) → misses w v p ≡ false → Over (opened_at w n p k (look w.at p)) (opened_at v n p k (look v.at p))
-  over-open n p k e = go (look w.at p) refl
+  over_open : (n : ℕ) (p : Path) (k : ℕ) → misses w v p ≡ false → Over (opened_at w n p k (look w.at p)) (opened_at v n p k (look v.at p))
+  over_open n p k e = go (look w.at p) refl
     where
       on : (i j : ℕ) → look w.at p ≡ some (file i) → look v.at p ≡ some (file j) → Over (opened_at w n p k (some (file i))) (opened_at v n p k (some (file j)))
-      on i j x y = over-opens w v _ _ r same back
+      on i j x y = over_opens w v _ _ r same back
         where
           a : Open
           a = record { num = n; id = i; pos = k; kept = p }
@@ -316,8 +316,8 @@ module _ (w v : World) (r : Over w v) where
       go none q = rw (not_missed w v p e q) r
       go (some m) q = let h = r.has (in_tree p) m q in rw h.1 (at (likes m h.0 h.2) q h.1)
 
-  over-close : (n : ℕ) → Over (with_opens w (close_num n w.opens)) (with_opens v (close_num n v.opens))
-  over-close n = over-opens w v _ _ r same back
+  over_close : (n : ℕ) → Over (with_opens w (close_num n w.opens)) (with_opens v (close_num n v.opens))
+  over_close n = over_opens w v _ _ r same back
     where
       same : (m : ℕ) → SameNumber (open_of (close_num n w.opens) m) (open_of (close_num n v.opens) m)
       same m = two (ℕ_discrete n m)
@@ -333,8 +333,8 @@ module _ (w v : World) (r : Over w v) where
           two (yes q) = clash (open_of (close_num n w.opens) m) c (ap (open_of (close_num n w.opens)) (sym q) ∙ close-here n w.opens) s
           two (no q) = by_number m c d (sym (close_past n m w.opens q) ∙ s) (sym (close_past n m v.opens q) ∙ t) refl refl
 
-  over-seek : (n k : ℕ) → Over (with_opens w (seek_num n k w.opens)) (with_opens v (seek_num n k v.opens))
-  over-seek n k = over-opens w v _ _ r same back
+  over_seek : (n k : ℕ) → Over (with_opens w (seek_num n k w.opens)) (with_opens v (seek_num n k v.opens))
+  over_seek n k = over_opens w v _ _ r same back
     where
       kept-id : (b : Bool) (o : Open) → (move_by b k o).id ≡ o.id
       kept-id true o = refl
@@ -367,8 +367,8 @@ module _ (w v : World) (r : Over w v) where
               let y : move_by (eqb h.0.num n) k h.0 ≡ d = some_inj (sym (seek_is n k m v.opens ∙ ap (moved n k) h.1) ∙ t) in
               by_number m a h.0 e h.1 (sym (kept-id (eqb a.num n) a) ∙ ap (λ (o : Open). o.id) x) (sym (kept-id (eqb h.0.num n) h.0) ∙ ap (λ (o : Open). o.id) y)
 
-  over-held : (n : ℕ) (c : Change) → Over (change_by w c (open_of w.opens n)) (change_by v c (open_of v.opens n))
-  over-held n c = go (open_of w.opens n) refl
+  over_held : (n : ℕ) (c : Change) → Over (change_by w c (open_of w.opens n)) (change_by v c (open_of v.opens n))
+  over_held n c = go (open_of w.opens n) refl
     where
       go : (o : Option Open) → open_of w.opens n ≡ o → Over (change_by w c o) (change_by v c (open_of v.opens n))
       go none e = rw (lone-number w v r n e) r
@@ -411,15 +411,15 @@ module _ (w v : World) (p : Path) (f : File) (r : Over w v) where
       go (inr x) (inr y) = inr (at_place pl (sym x ∙ a) (sym y ∙ b))
   pair_made i j (by_number n a b x y s t) = inr (by_number n a b x y s t)
 
-  old-first : (i j : ℕ) → Paired w v i j → new_id w.files ≡ i → ⊥
-  old-first i j q e = let h = r.alike i j q in not_new w.files i (h.0, h.1) e
+  old_first : (i j : ℕ) → Paired w v i j → new_id w.files ≡ i → ⊥
+  old_first i j q e = let h = r.alike i j q in not_new w.files i (h.0, h.1) e
 
   old-second : (i j : ℕ) → Paired w v i j → new_id v.files ≡ j → ⊥
   old-second i j q e = let h = r.alike i j q in not_new v.files j (h.0, h.2) e
 
-  has-made : (pl : Place) (n : Node) → seen (made w) pl ≡ some n → (m : Node) × (seen (made v) pl ≡ some m) × (erase n ≡ erase m)
+  has_made : (pl : Place) (n : Node) → seen (made w) pl ≡ some n → (m : Node) × (seen (made v) pl ≡ some m) × (erase n ≡ erase m)
   unfolding erase
-  has-made pl n e = go (made-seen w pl) (made-seen v pl)
+  has_made pl n e = go (made-seen w pl) (made-seen v pl)
     where
       go : ((pl ≡ in_tree p) × (seen (made w) pl ≡ some (file (new_id w.files)))) ⊎ (seen (made w) pl ≡ seen w pl)
           → ((pl ≡ in_tree p) × (seen (made v) pl ≡ some (file (new_id v.files)))) ⊎ (seen (made v) pl ≡ seen v pl)
@@ -444,23 +444,23 @@ module _ (w v : World) (p : Path) (f : File) (r : Over w v) where
       go (inr x) (inr y) (inr z) = z ∙ r.covers i j x pl (sym y ∙ e)
 
   -- the table still has what it had
-  made-has : (x : World) (i : ℕ) → HasFile x.files i → HasFile ((new_id x.files, f) ∷ x.files) i
-  made-has x i h = (h.0, cons_past (new_id x.files) i f x.files (not_new x.files i h) ∙ h.1)
+  made_has : (x : World) (i : ℕ) → HasFile x.files i → HasFile ((new_id x.files, f) ∷ x.files) i
+  made_has x i h = (h.0, cons_past (new_id x.files) i f x.files (not_new x.files i h) ∙ h.1)
 
-  pub over-made : Over (made w) (made v)
+  pub over_made : Over (made w) (made v)
   unfolding made
-  over-made =
+  over_made =
       record {
-        has = has-made;
+        has = has_made;
         numbers = r.numbers;
         alike = λ i j q. ⊎_elim (λ x. (f, ap (file_of ((new_id w.files, f) ∷ w.files)) (sym x.0) ∙ cons-here (new_id w.files) f w.files, ap (file_of ((new_id v.files, f) ∷ v.files)) (sym x.1) ∙ cons-here (new_id v.files) f v.files))
-            (λ x. let h = r.alike i j x in (h.0, cons_past (new_id w.files) i f w.files (old-first i j x) ∙ h.1, cons_past (new_id v.files) j f v.files (old-second i j x) ∙ h.2))
+            (λ x. let h = r.alike i j x in (h.0, cons_past (new_id w.files) i f w.files (old_first i j x) ∙ h.1, cons_past (new_id v.files) j f v.files (old-second i j x) ∙ h.2))
             (pair_made i j q);
         first = λ i k j q s. first' i k j (pair_made i j q) (pair_made k j s);
         second = λ i j k q s. second' i j k (pair_made i j q) (pair_made i k s);
         covers = covers-made;
         grounded = λ pl j e. ⊎_elim (λ x. (f, ap (file_of ((new_id v.files, f) ∷ v.files)) (sym (new-here v pl j x.0 e)) ∙ cons-here (new_id v.files) f v.files))
-            (λ x. made-has v j (r.grounded pl j (sym x ∙ e))) (made-seen v pl);
+            (λ x. made_has v j (r.grounded pl j (sym x ∙ e))) (made-seen v pl);
       }
     where
       first' : (i k j : ℕ) → ((new_id w.files ≡ i) × (new_id v.files ≡ j)) ⊎ Paired w v i j → ((new_id w.files ≡ k) × (new_id v.files ≡ j)) ⊎ Paired w v k j → i ≡ k
@@ -471,8 +471,8 @@ module _ (w v : World) (p : Path) (f : File) (r : Over w v) where
 
       second' : (i j k : ℕ) → ((new_id w.files ≡ i) × (new_id v.files ≡ j)) ⊎ Paired w v i j → ((new_id w.files ≡ i) × (new_id v.files ≡ k)) ⊎ Paired w v i k → j ≡ k
       second' i j k (inl x) (inl y) = sym x.1 ∙ y.1
-      second' i j k (inl x) (inr y) = absurd (old-first i k y x.0)
-      second' i j k (inr x) (inl y) = absurd (old-first i j x y.0)
+      second' i j k (inl x) (inr y) = absurd (old_first i k y x.0)
+      second' i j k (inr x) (inl y) = absurd (old_first i j x y.0)
       second' i j k (inr x) (inr y) = r.second i j k x y
 
 -- ---- all edits
@@ -480,21 +480,21 @@ module _ (w v : World) (p : Path) (f : File) (r : Over w v) where
 pub over_edit : (e : Edit) (w v : World) → Over w v → excepts_edit e w v ≡ false → Over (apply e w) (apply e v)
 unfolding apply excepts_edit made
 over_edit (make p m) w v r x = over_put w v p (dir m) (dir_no_file m) r
-over_edit (create p f) w v r x = over-made w v p f r
+over_edit (create p f) w v r x = over_made w v p f r
 over_edit (symlink p m s) w v r x = over_put w v p (link m s) (link_no_file m s) r
-over_edit (change p c) w v r x = over-change w v r p c x
+over_edit (change p c) w v r x = over_change w v r p c x
 over_edit (remove p) w v r x =
-    over-moved w v (with_tree w (cut p w.at)) (with_tree v (cut p v.at)) (cut_origin p) (cut_moved p w.at w.hand) (cut_moved p v.at v.hand)
+    over_moved w v (with_tree w (cut p w.at)) (with_tree v (cut p v.at)) (cut_origin p) (cut_moved p w.at w.hand) (cut_moved p v.at v.hand)
     (cut_no_new p) refl refl refl refl r
 over_edit (take p) w v r x =
-    over-moved w v (apply (take p) w) (apply (take p) v) (take_origin p) (take-moved p w.at w.hand) (take-moved p v.at v.hand) (take_no_new p) refl refl
+    over_moved w v (apply (take p) w) (apply (take p) v) (take_origin p) (take-moved p w.at w.hand) (take-moved p v.at v.hand) (take_no_new p) refl refl
     refl refl r
 over_edit (give p) w v r x =
-    over-moved w v (apply (give p) w) (apply (give p) v) (give_origin p) (give-moved p w.at w.hand) (give-moved p v.at v.hand) (give_no_new p) refl refl
+    over_moved w v (apply (give p) w) (apply (give p) v) (give_origin p) (give-moved p w.at w.hand) (give-moved p v.at v.hand) (give_no_new p) refl refl
     refl refl r
-over_edit (opens n p k) w v r x = over-open w v r n p k x
-over_edit (close n) w v r x = over-close w v r n
-over_edit (seek n k) w v r x = over-seek w v r n k
-over_edit (change_held n c) w v r x = over-held w v r n c
+over_edit (opens n p k) w v r x = over_open w v r n p k x
+over_edit (close n) w v r x = over_close w v r n
+over_edit (seek n k) w v r x = over_seek w v r n k
+over_edit (change_held n c) w v r x = over_held w v r n c
 over_edit (go p) w v r x = over_stay w v p p w.mask v.mask r
 over_edit (umask m) w v r x = over_stay w v w.here v.here m m r

@@ -43,8 +43,8 @@ module _ (w v : World) (r : Over w v) (tw : Tidy w) (tv : Tidy v) where
           (h.0.id, subst (λ (k : ℕ). Paired w v k h.0.id) n.3 h.3, or_right (is_named v.at h.0.id) (is_held v.opens h.0.id) (by_held v.opens n.0 h.0 h.1))
 
   -- the file of a pair is not only the second's
-  not-only : (i j : ℕ) → Paired w v i j → T (only_second w.at v.at j) → ⊥
-  not-only i j p t =
+  not_only : (i j : ℕ) → Paired w v i j → T (only_second w.at v.at j) → ⊥
+  not_only i j p t =
       let q = only_at_lem w.at v.at tv.tree j t in
       clash (look w.at q.0) (file i) q.2 (r.covers i j p (in_tree q.0) q.1)
 
@@ -79,15 +79,15 @@ module _ (w v : World) (r : Over w v) (tw : Tidy w) (tv : Tidy v) where
   common : ℕ → Bool
   common j = live v j && not (only_second w.at v.at j)
 
-  first-le : weigh (live w) w.files ≤ weigh common v.files
+  first_le : weigh (live w) w.files ≤ weigh common v.files
   unfolding common
-  first-le = weigh-le (live w) common (Paired w v) (λ i k j p q. r.first i k j p q) w.files v.files tw.files tv.files
+  first_le = weigh-le (live w) common (Paired w v) (λ i k j p q. r.first i k j p q) w.files v.files tw.files tv.files
       (λ i f e t.
       let m = mate i t in
       let a = r.alike i m.0 m.1 in (
         m.0,
         m.1,
-        and_both (live v m.0) (not (only_second w.at v.at m.0)) m.2 (not_T (only_second w.at v.at m.0) (not-only i m.0 m.1)),
+        and_both (live v m.0) (not (only_second w.at v.at m.0)) m.2 (not_T (only_second w.at v.at m.0) (not_only i m.0 m.1)),
         a.2 ∙ ap some (some_inj (sym a.1 ∙ e)),
       ))
 
@@ -99,8 +99,8 @@ module _ (w v : World) (r : Over w v) (tw : Tidy w) (tv : Tidy v) where
       let a = r.alike m.0 j m.1 in
       (m.0, m.1, m.2, a.1 ∙ ap some (some_inj (sym a.2 ∙ e))))
 
-  only-live : (j : ℕ) → live v j && only_second w.at v.at j ≡ only_second w.at v.at j
-  only-live j = go (live v j) (only_second w.at v.at j) is
+  only_live : (j : ℕ) → live v j && only_second w.at v.at j ≡ only_second w.at v.at j
+  only_live j = go (live v j) (only_second w.at v.at j) is
     where
       is : T (only_second w.at v.at j) → T (live v j)
       is t = let q = only_at_lem w.at v.at tv.tree j t in or_left (is_named v.at j) (is_held v.opens j) (at_named v.at q.0 j q.1)
@@ -110,10 +110,10 @@ module _ (w v : World) (r : Over w v) (tw : Tidy w) (tv : Tidy v) where
       go false true h = absurd (h tt)
       go false false h = refl
 
-  same-weigh : (g h : ℕ → Bool) (fs : Files) → ((i : ℕ) → g i ≡ h i) → weigh g fs ≡ weigh h fs
+  same_weigh : (g h : ℕ → Bool) (fs : Files) → ((i : ℕ) → g i ≡ h i) → weigh g fs ≡ weigh h fs
   unfolding weigh
-  same-weigh g h [] e = refl
-  same-weigh g h (f ∷ fs) e = rw (e f.0, same-weigh g h fs e)
+  same_weigh g h [] e = refl
+  same_weigh g h (f ∷ fs) e = rw (e f.0, same_weigh g h fs e)
 
   -- the second's contents are the first's and those that only the second has
   pub contents-apart : weigh (live v) v.files ≡ weigh (live w) w.files + weigh (only_second w.at v.at) v.files
@@ -122,9 +122,9 @@ module _ (w v : World) (r : Over w v) (tw : Tidy w) (tv : Tidy v) where
       omega (
         arith,
         weigh-split (live v) (only_second w.at v.at) v.files,
-        first-le,
+        first_le,
         second-le,
-        same-weigh (λ j. live v j && only_second w.at v.at j) (only_second w.at v.at) v.files only-live,
+        same_weigh (λ j. live v j && only_second w.at v.at j) (only_second w.at v.at) v.files only_live,
       )
 
 -- ---- two states
@@ -192,9 +192,9 @@ module _ (s u : State) (r : Over (world_of s) (world_of u)) (ts : Tidy (world_of
               three false e =
                   sym (ne_eqb c.id d.id (λ k. false≢true (sym e ∙ eq-eqb a.id b.id (r.first a.id b.id d.id (subst (λ (l : ℕ). Paired (world_of s) (world_of u) a.id l) k p) q))))
 
-  pub same-open : SameOpen s u
+  pub same_open : SameOpen s u
   unfolding position_of
-  same-open =
+  same_open =
       record {
         position = λ n. number-asked (world_of s) (world_of u) r n;
         on_file = on-file;

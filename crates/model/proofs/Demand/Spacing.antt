@@ -27,11 +27,11 @@ module _ (d : Path → ℕ) (c : Node → ℕ) (unnamed : d [] ≡ 0) (last : (p
   abbrev pub weight : World → ℕ
   weight w = total d c w.at + total d c w.hand
 
-  pub tree-has : (w v : World) → Over w v → Has d c w.at v.at
-  tree-has w v r q n k = let h = r.has (in_tree q) n k in (h.0, h.1, like n h.0 (likes n h.0 h.2))
+  pub tree_has : (w v : World) → Over w v → Has d c w.at v.at
+  tree_has w v r q n k = let h = r.has (in_tree q) n k in (h.0, h.1, like n h.0 (likes n h.0 h.2))
 
-  pub hand-has : (w v : World) → Over w v → Has d c w.hand v.hand
-  hand-has w v r q n k = let h = r.has (in_hand q) n k in (h.0, h.1, like n h.0 (likes n h.0 h.2))
+  pub hand_has : (w v : World) → Over w v → Has d c w.hand v.hand
+  hand_has w v r q n k = let h = r.has (in_hand q) n k in (h.0, h.1, like n h.0 (likes n h.0 h.2))
 
   module _ (w v : World) (r : Over w v) (tw : Tidy w) (tv : Tidy v) (top : Top w v) where
     same : weight v + weight w ≤ weight w + weight v
@@ -39,7 +39,7 @@ module _ (d : Path → ℕ) (c : Node → ℕ) (unnamed : d [] ≡ 0) (last : (p
 
     puts : (p : Path) (n m : Node) → c n ≡ c m
         → (total d c (put p m v.at) + total d c v.hand) + weight w ≤ (total d c (put p n w.at) + total d c w.hand) + weight v
-    puts p n m e = put-used d c unnamed last w.at w.hand v.at v.hand tw.tree tw.hand tv.tree tv.hand (tree-has w v r) (hand-has w v r) p n m e
+    puts p n m e = put-used d c unnamed last w.at w.hand v.at v.hand tw.tree tw.hand tv.tree tv.hand (tree_has w v r) (hand_has w v r) p n m e
 
     pub weight-edit : (e : Edit) → excepts_edit e w v ≡ false → weight (apply e v) + weight w ≤ weight (apply e w) + weight v
     unfolding apply excepts_edit
@@ -57,11 +57,11 @@ module _ (d : Path → ℕ) (c : Node → ℕ) (unnamed : d [] ≡ 0) (last : (p
         at none q = rw (not_missed w v p x q) same
         at (some n) q = let h = r.has (in_tree p) n q in rw h.1 (on (likes n h.0 h.2))
     weight-edit (remove p) x =
-        cut-used d c unnamed last w.at w.hand v.at v.hand tw.tree tw.hand tv.tree tv.hand (tree-has w v r) (hand-has w v r) p
+        cut-used d c unnamed last w.at w.hand v.at v.hand tw.tree tw.hand tv.tree tv.hand (tree_has w v r) (hand_has w v r) p
     weight-edit (take p) x =
-        take-used d c unnamed last w.at w.hand v.at v.hand tw.tree tw.hand tv.tree tv.hand (tree-has w v r) (hand-has w v r) p
+        take-used d c unnamed last w.at w.hand v.at v.hand tw.tree tw.hand tv.tree tv.hand (tree_has w v r) (hand_has w v r) p
     weight-edit (give p) x =
-        give-used d c unnamed last w.at w.hand v.at v.hand tw.tree tw.hand tv.tree tv.hand (tree-has w v r) (hand-has w v r) p top
+        give-used d c unnamed last w.at w.hand v.at v.hand tw.tree tw.hand tv.tree tv.hand (tree_has w v r) (hand_has w v r) p top
     weight-edit (opens n p k) x = at (look w.at p) refl
       where
         on : {a b : Node} → Likes a b → weight (opened_at v n p k (some b)) + weight w ≤ weight (opened_at w n p k (some a)) + weight v

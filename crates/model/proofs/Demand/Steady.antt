@@ -226,10 +226,10 @@ module _ (w : World) where
           tells-bind (O.parted v.path) _ w (λ l. run (O.parted v.path) w ≡ done l w) Finds (pure-tells (O.parted v.path) (pure-parted v.path)) λ _ _.
           look-finds b p v z
 
-  must-is : {A : Type 0} (o : Option A) (a : A) → run (O.must o) w ≡ done a w → o ≡ some a
+  must_is : {A : Type 0} (o : Option A) (a : A) → run (O.must o) w ≡ done a w → o ≡ some a
   unfolding O.must run
-  must-is none a e = no_answer e
-  must-is (some c) a e = ap some (same_answer e)
+  must_is none a e = no_answer e
+  must_is (some c) a e = ap some (same_answer e)
 
   -- an entry that is there was looked up
   pub record Led (b : ℕ) (p : Path) (e : O.There) : Type 0 where
@@ -246,7 +246,7 @@ module _ (w : World) where
       told =
           tells-bind (lookup b p) _ w (λ v. run (lookup b p) w ≡ done v w) (Led b p) (pure-tells (lookup b p) (pure-lookup b p)) λ v z.
           tells-bind (O.must v.kind) _ w (λ k. run (O.must v.kind) w ≡ done k w) (Led b p) (pure-tells (O.must v.kind) (pure-must v.kind)) λ k m.
-          record { at = v; looked = z; kind = must-is v.kind k m; path = refl }
+          record { at = v; looked = z; kind = must_is v.kind k m; path = refl }
 
   -- and stands
   leads-finds : (b : ℕ) (p : Path) (e : O.There) → run (O.leads b p) w ≡ done e w → Stood w e.path
@@ -281,29 +281,29 @@ module _ (w : World) where
   unfolding apply
   made-stood p f = (file (new_id w.files), put-here p (file (new_id w.files)) w.at)
 
-  steady-openEntry : (o : O.Opening) (n : ℕ) (t : Time) (p : Path) (k : Option Kind) → ((j : Kind) → k ≡ some j → Stood w p) → Steady (O.open_entry o n t p k) w
+  steady-open_entry : (o : O.Opening) (n : ℕ) (t : Time) (p : Path) (k : Option Kind) → ((j : Kind) → k ≡ some j → Stood w p) → Steady (O.open_entry o n t p k) w
   unfolding O.open_entry ◌>>◌
-  steady-openEntry o n t p (some k) h =
+  steady-open_entry o n t p (some k) h =
       steady_then _ _ w (pure-only_file k) λ _ _.
       steady_then _ _ w (pure-need (not o.create_new) 12) λ _ _.
       steady-cut o.truncate o.append p t n (h k refl)
-  steady-openEntry o n t p none h =
+  steady-open_entry o n t p none h =
       steady_then _ _ w (pure-parent_stands p) λ _ _.
       steady_then _ _ w (pure-need o.create 8) λ _ _.
       steady_then _ _ w (pure-new_mode o.mode) λ m _.
       steady_two (create p _) (opens n p 0) w tt (made-stood p _)
 
-  steady-writeEntry : (t : Time) (s : Bytes) (p : Path) (o : Option Kind) → ((k : Kind) → o ≡ some k → Stood w p) → Steady (O.write_entry t s p o) w
+  steady-write_entry : (t : Time) (s : Bytes) (p : Path) (o : Option Kind) → ((k : Kind) → o ≡ some k → Stood w p) → Steady (O.write_entry t s p o) w
   unfolding O.write_entry ◌>>◌
-  steady-writeEntry t s p (some k) h = steady_then _ _ w (pure-only_file k) λ _ _. steady-edits (change p (write s t)) w (h k refl)
-  steady-writeEntry t s p none h =
+  steady-write_entry t s p (some k) h = steady_then _ _ w (pure-only_file k) λ _ _. steady-edits (change p (write s t)) w (h k refl)
+  steady-write_entry t s p none h =
       steady_then _ _ w (pure-parent_stands p) λ _ _. steady_then _ _ w (pure-new_mode none) λ m _. steady-edits (create p _) w tt
 
-  steady-writeTo : (b : ℕ) (t : Time) (s : Bytes) (p : Path) → Steady (O.write_to b t s p) w
+  steady-write_to : (b : ℕ) (t : Time) (s : Bytes) (p : Path) → Steady (O.write_to b t s p) w
   unfolding O.write_to ◌>>◌
-  steady-writeTo b t s p =
+  steady-write_to b t s p =
       steady_then _ _ w (pure-open_walk b p) λ a e.
-      steady-end _ _ w (steady-writeEntry t s a.path a.kind (open-finds b p a e)) λ _.
+      steady-end _ _ w (steady-write_entry t s a.path a.kind (open-finds b p a e)) λ _.
       plain-ret _
 
   -- ---- permissions, times
@@ -338,10 +338,10 @@ module _ (w : World) where
           let h = old-stands w b few p cut_at led.looked led.kind in
           (h.1, ap (λ (z : Where). look w.at z.path) (same_answer (sym e ∙ h.2)) ∙ h.3)
 
-  steady-renameBy : (same : Bool) (b : ℕ) (t : Time) (p q : Path) → links_in w.at ≤ b → Steady (O.rename_by same b t p q) w
+  steady-rename_by : (same : Bool) (b : ℕ) (t : Time) (p q : Path) → links_in w.at ≤ b → Steady (O.rename_by same b t p q) w
   unfolding O.rename_by
-  steady-renameBy true b t p q few = plain-steady _ w (plain-ret _)
-  steady-renameBy false b t p q few = steady-apart b t p q few
+  steady-rename_by true b t p q few = plain-steady _ w (plain-ret _)
+  steady-rename_by false b t p q few = steady-apart b t p q few
 
 -- ---- all calls
 
@@ -355,24 +355,24 @@ steady (Calls.create_dir p t) b w few = plain-steady _ _ (search plain depth 20)
 steady (Calls.open_file n g f m t) b w few =
     steady_then _ _ w (pure-absolute g) λ p _.
     steady_then _ _ w (pure-open_walk b p) λ a e.
-    steady-end _ _ w (steady-openEntry w (Calls.opening_of f m) n t a.path a.kind (open-finds w b p a e)) λ _.
+    steady-end _ _ w (steady-open_entry w (Calls.opening_of f m) n t a.path a.kind (open-finds w b p a e)) λ _.
     plain-ret _
 steady (Calls.read_file p k) b w few = plain-steady _ _ (search plain depth 20)
 steady (Calls.write_file g d t) b w few =
     steady_then _ _ w (pure-absolute g) λ p _.
-    steady-end _ _ w (steady-writeTo w b t d p) λ _. plain-ret _
+    steady-end _ _ w (steady-write_to w b t d p) λ _. plain-ret _
 steady (Calls.copy_file g d t) b w few =
     steady_then _ _ w (pure-absolute g) λ p _.
     steady_then _ _ w (pure-absolute d) λ q _.
     steady_then _ _ w (pure-source_at b p) λ c _.
-    steady-end _ _ w (steady-writeTo w b t c.bytes q) λ _. plain-ret _
+    steady-end _ _ w (steady-write_to w b t c.bytes q) λ _. plain-ret _
 steady (Calls.hard_link g d t) b w few =
     steady_then _ _ w (pure-absolute g) λ p _.
     steady_then _ _ w (pure-absolute d) λ q _.
     steady_then _ _ w (pure-leads b p) λ v _.
     steady_then _ _ w (pure-only_file v.kind) λ _ _.
     steady_then _ _ w (pure-ask (bytes? v.path)) λ c _.
-    steady-end _ _ w (steady-writeTo w b t _ q) λ _. plain-ret _
+    steady-end _ _ w (steady-write_to w b t _ q) λ _. plain-ret _
 steady (Calls.link_file g p t) b w few = plain-steady _ _ (search plain depth 20)
 steady (Calls.remove_file p) b w few = plain-steady _ _ (search (plain, plain-a_file_out) depth 20)
 steady (Calls.remove_dir p) b w few = plain-steady _ _ (search (plain, plain-a_dir_out) depth 20)
@@ -380,7 +380,7 @@ steady (Calls.remove_tree p) b w few = plain-steady _ _ (search (plain, plain-a_
 steady (Calls.rename g d t) b w few =
     steady_then _ _ w (pure-absolute g) λ p _.
     steady_then _ _ w (pure-absolute d) λ q _.
-    steady-renameBy w (same_path p q) b t p q few
+    steady-rename_by w (same_path p q) b t p q few
 steady (Calls.metadata p k) b w few = plain-steady _ _ (search plain depth 20)
 steady (Calls.symlink_metadata p k) b w few = plain-steady _ _ (search plain depth 20)
 steady (Calls.read_link p k) b w few = plain-steady _ _ (search plain depth 20)

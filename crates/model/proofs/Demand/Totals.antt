@@ -21,10 +21,10 @@ module _ (d : Path → ℕ) (c : Node → ℕ) where
   abbrev pub Has : Entries → Entries → Type 0
   Has t u = (q : Path) (n : Node) → look t q ≡ some n → (m : Node) × (look u q ≡ some m) × (c n ≡ c m)
 
-  pub total-both : (s t : Entries) → total (s ++ t) ≡ total s + total t
+  pub total_both : (s t : Entries) → total (s ++ t) ≡ total s + total t
   unfolding total
-  total-both [] t = omega arith
-  total-both (e ∷ s) t = omega (arith, total-both s t)
+  total_both [] t = omega arith
+  total_both (e ∷ s) t = omega (arith, total_both s t)
 
   pub total-cut : (p : Path) (t : Entries) → total t ≡ total (cut p t) + total (graft p (under p t))
   unfolding total cut under graft
@@ -64,12 +64,12 @@ module _ (d : Path → ℕ) (c : Node → ℕ) where
       go (yes y) = clash (look t q) n (ap (look t) (sym y) ∙ a) k
       go (no y) = let g = h q n (look_past e t q y ∙ k) in (g.0, less_past e.0 q u y ∙ g.1, g.2)
 
-  pub total-has : (t u : Entries) → Apart t → Apart u → Has t u → total t ≤ total u
+  pub total_has : (t u : Entries) → Apart t → Apart u → Has t u → total t ≤ total u
   unfolding total
-  total-has [] u a b h = omega arith
-  total-has (e ∷ t) u a b h =
+  total_has [] u a b h = omega arith
+  total_has (e ∷ t) u a b h =
       let g = h e.0 e.1 (look-here e t e.0 refl) in
-      omega (arith, total-less e.0 g.0 u b g.1, g.2, total-has t (less e.0 u) a.1 (apart-less e.0 u b) (has_rest e t u a.0 h))
+      omega (arith, total-less e.0 g.0 u b g.1, g.2, total_has t (less e.0 u) a.1 (apart-less e.0 u b) (has_rest e t u a.0 h))
 
   -- ---- what is put behind a path
 
@@ -78,11 +78,11 @@ module _ (d : Path → ℕ) (c : Node → ℕ) where
   apart-graft p [] a = tt
   apart-graft p (e ∷ h) a = (graft_in p (p ++ e.0) e.0 h (behind-self p e.0) ∙ a.0, apart-graft p h a.1)
 
-  has-under : (p : Path) (t u : Entries) → Has t u → Has (under p t) (under p u)
-  has-under p t u h q n k = let g = h (p ++ q) n (sym (under_look p q t) ∙ k) in (g.0, under_look p q u ∙ g.1, g.2)
+  has_under : (p : Path) (t u : Entries) → Has t u → Has (under p t) (under p u)
+  has_under p t u h q n k = let g = h (p ++ q) n (sym (under_look p q t) ∙ k) in (g.0, under_look p q u ∙ g.1, g.2)
 
-  has-graft : (p : Path) (t u : Entries) → Has t u → Has (graft p t) (graft p u)
-  has-graft p t u h q n k = go (behind p q) refl
+  has_graft : (p : Path) (t u : Entries) → Has t u → Has (graft p t) (graft p u)
+  has_graft p t u h q n k = go (behind p q) refl
     where
       go : (o : Option Path) → behind p q ≡ o → (m : Node) × (look (graft p u) q ≡ some m) × (c n ≡ c m)
       go none b = clash (look (graft p t) q) n (graft_out p q t b) k
@@ -90,8 +90,8 @@ module _ (d : Path → ℕ) (c : Node → ℕ) where
 
   graft-le : (p : Path) (t u : Entries) → Apart t → Apart u → Has t u → total (graft p (under p t)) ≤ total (graft p (under p u))
   graft-le p t u a b h =
-      total-has (graft p (under p t)) (graft p (under p u)) (apart-graft p (under p t) (apart_under p t a)) (apart-graft p (under p u) (apart_under p u b))
-      (has-graft p (under p t) (under p u) (has-under p t u h))
+      total_has (graft p (under p t)) (graft p (under p u)) (apart-graft p (under p t) (apart_under p t a)) (apart-graft p (under p u) (apart_under p u b))
+      (has_graft p (under p t) (under p u) (has_under p t u h))
 
   -- what a path adds to the entry that is put at it
   abbrev pub crown : Path → Option Node → ℕ
@@ -154,8 +154,8 @@ module _ (d : Path → ℕ) (c : Node → ℕ) where
             total-cut p u,
             total-graft p (under p t) (apart_under p t at),
             total-graft p (under p u) (apart_under p u au),
-            crown-has p (under p t) (under p u) (has-under p t u has),
-            total-has h i ah ai held,
+            crown-has p (under p t) (under p u) (has_under p t u has),
+            total_has h i ah ai held,
           )
 
       pub give-used : (p : Path) → (look h [] ≡ none → look i [] ≡ none)
@@ -165,8 +165,8 @@ module _ (d : Path → ℕ) (c : Node → ℕ) where
             arith,
             total-cut p t,
             total-cut p u,
-            total-both (graft p h) (cut p t),
-            total-both (graft p i) (cut p u),
+            total_both (graft p h) (cut p t),
+            total_both (graft p i) (cut p u),
             total-graft p h ah,
             total-graft p i ai,
             crown-lacks p h i l,

@@ -58,16 +58,16 @@ module _ (w v : World) (x : Name) (within : Within v.at w.at) where
   at-end d (some (link a s)) l h = record { met = ends (last_link d); runs = until_end v d l; beside = last d a s l (cc) refl }
 
   -- before it
-  on-way : (d : Path) (y : Name) (g : List Name) {m : Met} {z : World} (o : Option Node) → look v.at d ≡ o
+  on_way : (d : Path) (y : Name) (g : List Name) {m : Met} {z : World} (o : Option Node) → look v.at d ≡ o
       → run (onward d (y ∷ (g ++ (x ∷ []))) (kind_in o)) w ≡ done m z
       → (run (until_symlink (d ++ (y ∷ [])) (g ++ (x ∷ []))) w ≡ done m z → Follows v x (d ++ (y ∷ [])) g m)
       → Follows v x d (y ∷ g) m
   unfolding run until_symlink onward ◌>>=◌ node_kind
-  on-way d y g none l h ih = record { met = ends (missing (d ++ (y ∷ g))); runs = until-step v d y g l; beside = gone (d ++ (y ∷ g)) refl }
-  on-way d y g (some (dir a)) l h ih =
+  on_way d y g none l h ih = record { met = ends (missing (d ++ (y ∷ g))); runs = until-step v d y g l; beside = gone (d ++ (y ∷ g)) refl }
+  on_way d y g (some (dir a)) l h ih =
       let f = ih h in record { met = f.met; runs = until-step v d y g l ∙ f.runs; beside = f.beside }
-  on-way d y g (some (file i)) l h ih = no_answer h
-  on-way d y g (some (link a s)) l h ih =
+  on_way d y g (some (file i)) l h ih = no_answer h
+  on_way d y g (some (link a s)) l h ih =
       record { met = mid_link d (y ∷ g); runs = until-step v d y g l; beside = mid d (y ∷ g) a s l (cc) refl }
 
   -- one walk, to the first link or the end
@@ -84,4 +84,4 @@ module _ (w v : World) (x : Name) (within : Within v.at w.at) where
       go : (look v.at d ≡ none) ⊎ (look v.at d ≡ look w.at d)
           → (run (until_symlink (d ++ (y ∷ [])) (g ++ (x ∷ []))) w ≡ done m z → Follows v x (d ++ (y ∷ [])) g m) → Follows v x d (y ∷ g) m
       go (inl e) ih = record { met = ends (missing (d ++ (y ∷ g))); runs = until-step v d y g e; beside = gone (d ++ (y ∷ g)) refl }
-      go (inr e) ih = on-way d y g (look v.at d) refl (sym (until-step w d y (g ++ (x ∷ [])) (sym e)) ∙ h) ih
+      go (inr e) ih = on_way d y g (look v.at d) refl (sym (until-step w d y (g ++ (x ∷ [])) (sym e)) ∙ h) ih

@@ -20,7 +20,7 @@ use Rattle.model.proofs.Lookups.Pure.{bind-run, next, along, no_follow_is, reach
 use Rattle.model.proofs.Lookups.Beside.{Within, Beside, gone, stands, last, mid, follows}
 use Rattle.model.proofs.Lookups.Counting.{Goes, stops, leads, behind-run}
 use Rattle.model.proofs.Sound.Paths.{fits_left}
-use Rattle.model.proofs.Lookups.Linked.{next_same, next_snoc, Room, room-first, room-along, room-spent}
+use Rattle.model.proofs.Lookups.Linked.{next_same, next_snoc, Room, room_first, room-along, room-spent}
 
 -- ---- lookups, step by step
 
@@ -33,9 +33,9 @@ module _ (w : World) (k : ℕ) (p : Path) (ls : List Path) where
   first_walk : (m : Met) → run (until_symlink [] p) w ≡ done m w → run (no_follow k p ls) w ≡ run (ended ls m (along k ls)) w
   first_walk m e = rw no_follow_is (bind-run (until_symlink [] p) (λ m. ended ls m (along k ls)) w w e)
 
-  noFollow-ends : (m : End) → run (until_symlink [] p) w ≡ done (ends m) w → run (no_follow k p ls) w ≡ done (record { end = m; links = ls }) w
+  no_follow-ends : (m : End) → run (until_symlink [] p) w ≡ done (ends m) w → run (no_follow k p ls) w ≡ done (record { end = m; links = ls }) w
   unfolding ended run
-  noFollow-ends m e = first_walk (ends m) e
+  no_follow-ends m e = first_walk (ends m) e
 
 no_follow-leads : (w : World) (k : ℕ) (p : Path) (ls : List Path) (d : Path) (g : List Name)
     → run (until_symlink [] p) w ≡ done (mid_link d g) w
@@ -61,7 +61,7 @@ module _ (w v : World) (m : End) (x : Name) (within : Within v.at w.at) (P : Whe
   module _ (r : Path) (n : ℕ) (goes : Goes w m (r ++ (x ∷ [])) n) (k b : ℕ) (ls : List Path) where
     -- the shorter walk ends
     on-end : (o : End) → run (until_symlink [] r) v ≡ done (ends o) v → run (look_from k b r ls) v ≡ run (reach b (record { end = o; links = ls })) v
-    on-end o e = bind-run (no_follow k r ls) (reach b) v v (noFollow-ends v k r ls o e)
+    on-end o e = bind-run (no_follow k r ls) (reach b) v v (no_follow-ends v k r ls o e)
 
     lands-gone : (z : Path) → run (until_symlink [] r) v ≡ done (ends (missing z)) v → Lands v P (look_from k b r ls)
     unfolding reached run
@@ -106,7 +106,7 @@ module _ (w v : World) (m : End) (x : Name) (within : Within v.at w.at) (P : Whe
     lands_last j way e =
         let t : T (path_fits (next v d [])) = fits_left (next v d []) (x ∷ []) (rw way at fits) in
         lands_as (look_from k (suc b) r ls) (look_from most_links b (next v d []) (ls ++ (d ∷ [])))
-        (bind-run (no_follow k r ls) (reach (suc b)) v v (noFollow-ends v k r ls (last_link d) e)
+        (bind-run (no_follow k r ls) (reach (suc b)) v v (no_follow-ends v k r ls (last_link d) e)
         ∙ bind-run (behind_link d []) (λ p. following b p (ls ++ (d ∷ []))) v v (behind-run v d [] t)
         ∙ ap (λ (p : Prog Where). run p v) (following_is b (next v d []) (ls ++ (d ∷ []))))
         (on (next v d []) most_links b (ls ++ (d ∷ [])) way j room)
@@ -145,4 +145,4 @@ module _ (w v : World) (m : End) (x : Name) (within : Within v.at w.at) (P : Whe
   -- the lookup of the shorter path, in a tree with no more links than it may follow
   pub parent-lands : (b : ℕ) (r : Path) (n : ℕ) → Goes w m (r ++ (x ∷ [])) n → n ≤ most_links → links_in v.at ≤ b
       → Lands v P (lookup b r)
-  parent-lands b r n g h few = rw following_is (lands g h r most_links b [] refl h (room-first w v m x n b few))
+  parent-lands b r n g h few = rw following_is (lands g h r most_links b [] refl h (room_first w v m x n b few))

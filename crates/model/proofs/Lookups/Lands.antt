@@ -148,43 +148,43 @@ module _ (v w : World) (sees : (q : Path) (n : Node) → look v.at q ≡ some n 
   Past p (missing q) = Unit {0}
   Past p (last_link q) = Shut (target q []) → Shut p
 
-  ended-past : (p : Path) (ls : List Path) (m : Met) (f : Path → List Name → Prog Walked) → Beyond [] p m
+  ended_past : (p : Path) (ls : List Path) (m : Met) (f : Path → List Name → Prog Walked) → Beyond [] p m
       → ((q u : Path) → Turns [] p q u → Says (λ a. Past p a.end) (f q u) v) → Says (λ a. Past p a.end) (ended ls m f) v
   unfolding ended
-  ended-past p ls (ends (found q k)) f h i = gives {a = record { end = found q k; links = ls }} (refl, λ e. stopped p (h e))
-  ended-past p ls (ends (missing q)) f h i = gives (refl, tt)
-  ended-past p ls (ends (last_link q)) f h i = gives {a = record { end = last_link q; links = ls }} (refl, through p q [] h)
-  ended-past p ls (mid_link q u) f h i = i q u h
+  ended_past p ls (ends (found q k)) f h i = gives {a = record { end = found q k; links = ls }} (refl, λ e. stopped p (h e))
+  ended_past p ls (ends (missing q)) f h i = gives (refl, tt)
+  ended_past p ls (ends (last_link q)) f h i = gives {a = record { end = last_link q; links = ls }} (refl, through p q [] h)
+  ended_past p ls (mid_link q u) f h i = i q u h
 
-  noFollow-past : (k : ℕ) (p : Path) (ls : List Path) → Says (λ a. Past p a.end) (no_follow k p ls) v
+  no_follow_past : (k : ℕ) (p : Path) (ls : List Path) → Says (λ a. Past p a.end) (no_follow k p ls) v
   unfolding no_follow
-  noFollow-past zero p ls = then (until-beyond [] p) λ m h. ended-past p ls m _ h (λ q u t. stops)
-  noFollow-past (suc k) p ls =
+  no_follow_past zero p ls = then (until-beyond [] p) λ m h. ended_past p ls m _ h (λ q u t. stops)
+  no_follow_past (suc k) p ls =
       then (until-beyond [] p) λ m h.
-      ended-past p ls m _ h λ q u t.
+      ended_past p ls m _ h λ q u t.
       then (behind_link_is v q u) λ z e.
-      weaken (noFollow-past k z (ls ++ (q ∷ []))) (λ a o y. (y.0, on q u t z e a.end y.1))
+      weaken (no_follow_past k z (ls ++ (q ∷ []))) (λ a o y. (y.0, on q u t z e a.end y.1))
     where
       on : (q u : Path) → Turns [] p q u → (z : Path) → z ≡ target q u → (m : End) → Past z m → Past p m
       on q u t z e (found o j) h = λ y. through p q u t (subst Shut e (h y))
       on q u t z e (missing o) h = tt
       on q u t z e (last_link o) h = λ y. through p q u t (subst Shut e (h y))
 
-  reached-past : (p : Path) (m : End) (ls : List Path) (f : Path → Prog Where) → Past p m
+  reached_past : (p : Path) (m : End) (ls : List Path) (f : Path → Prog Where) → Past p m
       → ((q : Path) → (Shut (target q []) → Shut p) → Says (λ a. a.kind ≡ some aFile → Shut p) (f q) v) → Says (λ a. a.kind ≡ some aFile → Shut p) (reached m ls f) v
   unfolding reached
-  reached-past p (found q k) ls f h i = gives (refl, λ e. h (some_inj e))
-  reached-past p (missing q) ls f h i = gives (refl, λ e. clash none aFile refl e)
-  reached-past p (last_link q) ls f h i = i q h
+  reached_past p (found q k) ls f h i = gives (refl, λ e. h (some_inj e))
+  reached_past p (missing q) ls f h i = gives (refl, λ e. clash none aFile refl e)
+  reached_past p (last_link q) ls f h i = i q h
 
-  following-past : (b : ℕ) (p : Path) (ls : List Path) → Says (λ a. a.kind ≡ some aFile → Shut p) (following b p ls) v
+  following_past : (b : ℕ) (p : Path) (ls : List Path) → Says (λ a. a.kind ≡ some aFile → Shut p) (following b p ls) v
   unfolding following
-  following-past zero p ls = then (noFollow-past most_links p ls) λ a h. reached-past p a.end a.links _ h (λ q i. stops)
-  following-past (suc b) p ls =
-      then (noFollow-past most_links p ls) λ a h.
-      reached-past p a.end a.links _ h λ q i.
+  following_past zero p ls = then (no_follow_past most_links p ls) λ a h. reached_past p a.end a.links _ h (λ q i. stops)
+  following_past (suc b) p ls =
+      then (no_follow_past most_links p ls) λ a h.
+      reached_past p a.end a.links _ h λ q i.
       then (behind_link_is v q []) λ z e.
-      weaken (following-past b z (a.links ++ (q ∷ []))) (λ c o y. (y.0, λ k. i (subst Shut e (y.1 k))))
+      weaken (following_past b z (a.links ++ (q ∷ []))) (λ c o y. (y.0, λ k. i (subst Shut e (y.1 k))))
 
   shut-lookup : (p : Path) → Shut p → (c : ℕ) → Barred (run (lookup c (p ++ (x ∷ []))) w)
   unfolding following
@@ -193,4 +193,4 @@ module _ (v w : World) (sees : (q : Path) (n : Node) → look v.at q ≡ some n 
 
   -- a lookup of p that ends at a file says that a lookup of p with a name more is refused
   pub lands : (b : ℕ) (p : Path) → Says (λ a. a.kind ≡ some aFile → (c : ℕ) → Barred (run (lookup c (p ++ (x ∷ []))) w)) (lookup b p) v
-  lands b p = weaken (following-past b p []) (λ a o h. (h.0, λ k. shut-lookup p (h.1 k)))
+  lands b p = weaken (following_past b p []) (λ a o h. (h.0, λ k. shut-lookup p (h.1 k)))

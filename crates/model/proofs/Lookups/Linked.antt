@@ -45,8 +45,8 @@ pub record Room (w v : World) (m : End) (x : Name) (n b : ℕ) : Type 0 where
 
 module _ (w v : World) (m : End) (x : Name) (n b : ℕ) where
   -- at first all are left
-  pub room-first : links_in v.at ≤ b → Room w v m x n b
-  room-first h = record { left = v.at; few = h; still = λ z a s k l g i. l }
+  pub room_first : links_in v.at ≤ b → Room w v m x n b
+  room_first h = record { left = v.at; few = h; still = λ z a s k l g i. l }
 
   -- a link before the last name spends none
   pub room-along : Room w v m x (suc n) b → Room w v m x n b

@@ -18,8 +18,8 @@ use Rattle.model.specs.Seen.{is_in, begun, hunting}
 use Rattle.model.proofs.Entries.{path-dec, less_past}
 use Rattle.model.proofs.Lookups.LinkCount.{Told, told, links_of, links-less}
 use Rattle.model.proofs.Running.{allowed, need-run, tells-done, tells_then, onto}
-use Rattle.model.proofs.Lookups.Walking.{Link, until-tells, goes, behind-run, Walks, no-follow-tells, no-follow-then, walk-stands}
-use Rattle.model.proofs.Lookups.Rewalk.{no-follow-straight, tracks}
+use Rattle.model.proofs.Lookups.Walking.{Link, until-tells, goes, behind-run, Walks, no_follow-tells, no_follow_then, walk-stands}
+use Rattle.model.proofs.Lookups.Rewalk.{no_follow-straight, tracks}
 
 -- ---- the set
 
@@ -71,11 +71,11 @@ module _ (w : World) where
       go (done (mid_link d r) u) = h d r
 
   -- the links followed before do not matter
-  no-follow-alike : (k : ℕ) (p : Path) (ls ms : List Path) → landed (run (no_follow k p ls) w) ≡ landed (run (no_follow k p ms) w)
+  no_follow-alike : (k : ℕ) (p : Path) (ls ms : List Path) → landed (run (no_follow k p ls) w) ≡ landed (run (no_follow k p ms) w)
   unfolding no_follow
-  no-follow-alike zero p ls ms = ended-alike p ls ms _ _ (λ d r. refl)
-  no-follow-alike (suc k) p ls ms = ended-alike p ls ms _ _ (λ d r.
-      ap landed (behind-run w d r _) ∙ go (path_fits (goes w d r)) _ _ (no-follow-alike k (goes w d r) _ _) ∙ sym (ap landed (behind-run w d r _)))
+  no_follow-alike zero p ls ms = ended-alike p ls ms _ _ (λ d r. refl)
+  no_follow-alike (suc k) p ls ms = ended-alike p ls ms _ _ (λ d r.
+      ap landed (behind-run w d r _) ∙ go (path_fits (goes w d r)) _ _ (no_follow-alike k (goes w d r) _ _) ∙ sym (ap landed (behind-run w d r _)))
     where
       go : (b : Bool) (o q : Out Walked) → landed o ≡ landed q → landed (allowed b 6 o) ≡ landed (allowed b 6 q)
       go true o q h = h
@@ -86,9 +86,9 @@ module _ (w : World) where
   Lands p y = (ls : List Path) → landed (run (no_follow most_links p ls) w) ≡ done (last_link y) w
 
   -- and goes on from there
-  lands-then : (p y : Path) → Lands p y → (ls : List Path) (f : List Path → Path → Prog Where) → (ms : List Path) × (run (look_then p ls f) w ≡ run (f ms y) w)
+  lands_then : (p y : Path) → Lands p y → (ls : List Path) (f : List Path → Path → Prog Where) → (ms : List Path) × (run (look_then p ls f) w ≡ run (f ms y) w)
   unfolding reached
-  lands-then p y h ls f = go (run (no_follow most_links p ls) w) (h ls) (no-follow-then w p ls _)
+  lands_then p y h ls f = go (run (no_follow most_links p ls) w) (h ls) (no_follow_then w p ls _)
     where
       go : (o : Out Walked) → landed o ≡ done (last_link y) w → run (look_then p ls f) w ≡ onto o (λ a. run (reached a.end a.links (f a.links)) w) →
           (ms : List Path) × (run (look_then p ls f) w ≡ run (f ms y) w)
@@ -99,16 +99,16 @@ module _ (w : World) where
   two_ways : (p : Path) (ls : List Path) (f g : List Path → Path → Prog Where) →
       ((ms : List Path) (d : Path) → Link w d → Lands p d → Lands d d → run (f ms d) w ≡ run (g ms d) w) → run (look_then p ls f) w ≡ run (look_then p ls g) w
   unfolding reached
-  two_ways p ls f g h = no-follow-then w p ls _ ∙ go (run (no_follow most_links p ls) w) refl ∙ sym (no-follow-then w p ls _)
+  two_ways p ls f g h = no_follow_then w p ls _ ∙ go (run (no_follow most_links p ls) w) refl ∙ sym (no_follow_then w p ls _)
     where
       met : (m : End) (ms : List Path) (u : World) → run (no_follow most_links p ls) w ≡ done (record { end = m; links = ms }) u → run (reached m ms (f ms)) w ≡ run (reached m ms (g ms)) w
       met (found d k) ms u y = refl
       met (missing d) ms u y = refl
       met (last_link d) ms u y =
-          let t : (u ≡ w) × Walks w ls (40 + length ls) (record { end = last_link d; links = ms }) = tells-done (no_follow most_links p ls) w _ (no-follow-tells w most_links p ls ls _ (omega arith) (λ d i. inl i)) _ u y in
+          let t : (u ≡ w) × Walks w ls (40 + length ls) (record { end = last_link d; links = ms }) = tells-done (no_follow most_links p ls) w _ (no_follow-tells w most_links p ls ls _ (omega arith) (λ d i. inl i)) _ u y in
           h ms d (walk-stands w d (ends (last_link d)) t.1.again)
-          (λ ks. no-follow-alike most_links p ks ls ∙ ap landed y ∙ ap (done (last_link d)) t.0)
-          (λ ks. ap landed (no-follow-straight w most_links d (last_link d) ks t.1.again))
+          (λ ks. no_follow-alike most_links p ks ls ∙ ap landed y ∙ ap (done (last_link d)) t.0)
+          (λ ks. ap landed (no_follow-straight w most_links d (last_link d) ks t.1.again))
 
       go : (o : Out Walked) → run (no_follow most_links p ls) w ≡ o →
           onto o (λ a. run (reached a.end a.links (f a.links)) w) ≡ onto o (λ a. run (reached a.end a.links (g a.links)) w)
@@ -128,8 +128,8 @@ module _ (w : World) where
   -- where nothing leads out of the set, every bound is passed
   loop : (seen : List Path) → ((p : Path) → Memᴰ p seen → Leads seen p) → (b : ℕ) (p : Path) (ls : List Path) → Memᴰ p seen → run (following b p ls) w ≡ refused 7
   unfolding following run
-  loop seen c zero p ls i = (lands-then p (c p i).0 (c p i).1 ls (λ ms d. stop 7)).1
-  loop seen c (suc b) p ls i = (lands-then p (c p i).0 (c p i).1 ls (by_bound b)).1 ∙ behind-run w (c p i).0 [] _ ∙ rw (c p i).2.1 (loop seen c b _ _ (c p i).2.0)
+  loop seen c zero p ls i = (lands_then p (c p i).0 (c p i).1 ls (λ ms d. stop 7)).1
+  loop seen c (suc b) p ls i = (lands_then p (c p i).0 (c p i).1 ls (by_bound b)).1 ∙ behind-run w (c p i).0 [] _ ∙ rw (c p i).2.1 (loop seen c b _ _ (c p i).2.0)
 
   -- of the paths seen, each leads on, or is the one looked up now
   abbrev Trail : List Path → Path → Type 0

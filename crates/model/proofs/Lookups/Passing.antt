@@ -92,10 +92,10 @@ module _ (t : Entries) where
       go (inr o) = p z o.0 o.1 n o.2 l
 
   -- what stands, stands in what stands
-  stands-in : Parents t → (d f : Path) (n : Node) → look t (d ++ f) ≡ some n → (m : Node) × (look t d ≡ some m)
-  stands-in up d [] n l = (n, rw append-nil at l)
-  stands-in up d (a ∷ f) n l =
-      let i = stands-in up (d ++ (a ∷ [])) f n (ap (look t) (append_assoc d (a ∷ []) f) ∙ l) in
+  stands_in : Parents t → (d f : Path) (n : Node) → look t (d ++ f) ≡ some n → (m : Node) × (look t d ≡ some m)
+  stands_in up d [] n l = (n, rw append-nil at l)
+  stands_in up d (a ∷ f) n l =
+      let i = stands_in up (d ++ (a ∷ [])) f n (ap (look t) (append_assoc d (a ∷ []) f) ∙ l) in
       let j = up d a i.0 i.1 in
       (dir j.0, j.1)
 
@@ -103,7 +103,7 @@ module _ (t : Entries) where
   passes-missing up d r s p z y e n h l = go (fronts d r z (y ∷ e) h)
     where
       go : ((f : Path) × (z ≡ d ++ f)) ⊎ ((y : Name) × (f : Path) × (d ≡ z ++ (y ∷ f))) → (m : Meta) × (n ≡ dir m)
-      go (inl o) = let i = stands-in up d o.0 n (ap (look t) (sym o.1) ∙ l) in clash (look t d) i.0 s i.1
+      go (inl o) = let i = stands_in up d o.0 n (ap (look t) (sym o.1) ∙ l) in clash (look t d) i.0 s i.1
       go (inr o) = p z o.0 o.1 n o.2 l
 
   -- below a missing name nothing stands
@@ -112,7 +112,7 @@ module _ (t : Entries) where
     where
       go : (o : Option Node) → look t (d ++ r) ≡ o → look t (d ++ r) ≡ none
       go none e = e
-      go (some n) e = let i = stands-in up d r n e in clash (look t d) i.0 s i.1
+      go (some n) e = let i = stands_in up d r n e in clash (look t d) i.0 s i.1
 
 -- an answer with the way to it: the kind is that of what stands there
 pub record Reaches (t : Entries) (p : Path) (k : Option Kind) : Type 0 where

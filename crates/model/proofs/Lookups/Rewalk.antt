@@ -13,7 +13,7 @@ use Rattle.model.specs.Tree.{Path, Meta, Node, dir, file, link, look}
 use Rattle.model.specs.Prog.{World, Kind, a_dir, aFile, a_link, kind?, node_kind, on_some, answer, Prog, ◌>>=◌, done, run}
 use Rattle.model.specs.Lookup.{End, found, missing, Met, ends, mid_link, onward, until_symlink, Walked, ended, no_follow, most_links, Where, reached, following, lookup}
 use Rattle.model.proofs.Running.{tells-done, tells_then}
-use Rattle.model.proofs.Lookups.Walking.{at_end, Link, until-tells, no-follow-then, Tracks, walk-stands, following-tells}
+use Rattle.model.proofs.Lookups.Walking.{at_end, Link, until-tells, no_follow_then, Tracks, walk-stands, following-tells}
 
 module _ (w : World) where
   ended-run : (q : Path) (m : End) (ls : List Path) (f : Path → List Name → Prog Walked) → run (until_symlink [] q) w ≡ done (ends m) w →
@@ -22,19 +22,19 @@ module _ (w : World) where
   ended-run q m ls f h = tells_then (until_symlink [] q) _ w _ (until-tells w [] q) ∙ rw h
 
   -- a no-follow lookup of a path whose walk meets no link before the last name
-  pub no-follow-straight : (k : ℕ) (q : Path) (m : End) (ls : List Path) → run (until_symlink [] q) w ≡ done (ends m) w →
+  pub no_follow-straight : (k : ℕ) (q : Path) (m : End) (ls : List Path) → run (until_symlink [] q) w ≡ done (ends m) w →
       run (no_follow k q ls) w ≡ done (record { end = m; links = ls }) w
   unfolding no_follow
-  no-follow-straight zero q m ls h = ended-run q m ls _ h
-  no-follow-straight (suc k) q m ls h = ended-run q m ls _ h
+  no_follow-straight zero q m ls h = ended-run q m ls _ h
+  no_follow-straight (suc k) q m ls h = ended-run q m ls _ h
 
   -- a lookup of a path whose walk meets no link
   pub straight : (b : ℕ) (q : Path) (o : Option Kind) → run (until_symlink [] q) w ≡ done (ends (at_end q o)) w → run (lookup b q) w ≡ done (record { path = q; kind = o; links = [] }) w
   unfolding following reached run
-  straight zero q none h = no-follow-then w q [] _ ∙ rw (no-follow-straight most_links q (missing q) [] h)
-  straight zero q (some k) h = no-follow-then w q [] _ ∙ rw (no-follow-straight most_links q (found q k) [] h)
-  straight (suc b) q none h = no-follow-then w q [] _ ∙ rw (no-follow-straight most_links q (missing q) [] h)
-  straight (suc b) q (some k) h = no-follow-then w q [] _ ∙ rw (no-follow-straight most_links q (found q k) [] h)
+  straight zero q none h = no_follow_then w q [] _ ∙ rw (no_follow-straight most_links q (missing q) [] h)
+  straight zero q (some k) h = no_follow_then w q [] _ ∙ rw (no_follow-straight most_links q (found q k) [] h)
+  straight (suc b) q none h = no_follow_then w q [] _ ∙ rw (no_follow-straight most_links q (missing q) [] h)
+  straight (suc b) q (some k) h = no_follow_then w q [] _ ∙ rw (no_follow-straight most_links q (found q k) [] h)
 
   -- ---- what a lookup tells
 

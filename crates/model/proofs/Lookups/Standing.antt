@@ -60,8 +60,8 @@ abbrev pub Holds : World → Name → Where → Type 0
 Holds w x y = (n : Node) × (y.kind ≡ some a_dir) × (look w.at (y.path ++ (x ∷ [])) ≡ some n)
 
 module _ (w : World) (x : Name) (m : End) (stays : (z : Path) → m ≡ missing z → ⊥) where
-  not-gone : (r z : Path) (n : ℕ) → Goes w m (r ++ (x ∷ [])) n → run (until_symlink [] r) w ≡ done (ends (missing z)) w → ⊥
-  not-gone r z n g e = stays (z ++ (x ∷ [])) (goes-met (missing (z ++ (x ∷ []))) g (one_more w x [] r (ends (missing z)) e))
+  not_gone : (r z : Path) (n : ℕ) → Goes w m (r ++ (x ∷ [])) n → run (until_symlink [] r) w ≡ done (ends (missing z)) w → ⊥
+  not_gone r z n g e = stays (z ++ (x ∷ [])) (goes-met (missing (z ++ (x ∷ []))) g (one_more w x [] r (ends (missing z)) e))
 
   there : (r d : Path) (n : ℕ) → Goes w m (r ++ (x ∷ [])) n → run (until_symlink [] r) w ≡ done (ends (found d a_dir)) w
       → (k : Node) × (look w.at (d ++ (x ∷ [])) ≡ some k)
@@ -78,7 +78,7 @@ module _ (w : World) (x : Name) (m : End) (stays : (z : Path) → m ≡ missing 
   holds : (b : ℕ) (r : Path) (n : ℕ) → Goes w m (r ++ (x ∷ [])) n → n ≤ most_links → links_in w.at ≤ b
       → Lands w (Holds w x) (lookup b r)
   holds =
-      parent-lands w w m x (λ z. inr refl) (Holds w x) (λ r z n ls g e. absurd (not-gone r z n g e))
+      parent-lands w w m x (λ z. inr refl) (Holds w x) (λ r z n ls g e. absurd (not_gone r z n g e))
       λ r d n ls g e. let t = there r d n g e in (t.0, refl, t.1)
 
 leads-run : (w : World) (b : ℕ) (r : Path) {y : Where} {k : Kind} → run (lookup b r) w ≡ done y w → y.kind ≡ some k

@@ -128,16 +128,16 @@ module _ (w : World) where
       go (mid_link d r) e j = k d r j
 
   -- it only asks, and follows at most k links more
-  pub no-follow-tells : (k : ℕ) (p : Path) (o ls : List Path) (n : ℕ) → k + length ls ≤ n → Links w o ls → Tells (no_follow k p ls) w (Walks o n)
+  pub no_follow-tells : (k : ℕ) (p : Path) (o ls : List Path) (n : ℕ) → k + length ls ≤ n → Links w o ls → Tells (no_follow k p ls) w (Walks o n)
   unfolding no_follow
-  no-follow-tells zero p o ls n h l = ended-tells o n p ls _ (omega arith) l (λ d r j. tt)
-  no-follow-tells (suc k) p o ls n h l = ended-tells o n p ls _ (omega arith) l
+  no_follow-tells zero p o ls n h l = ended-tells o n p ls _ (omega arith) l (λ d r j. tt)
+  no_follow-tells (suc k) p o ls n h l = ended-tells o n p ls _ (omega arith) l
       (λ d r j. tells-bind (behind_link d r) _ w _ _ (behind-tells d r)
-      (λ q _. no-follow-tells k q o (ls ++ (d ∷ [])) n (simp length-append (omega arith)) (links-snoc w o ls d l j)))
+      (λ q _. no_follow-tells k q o (ls ++ (d ∷ [])) n (simp length-append (omega arith)) (links-snoc w o ls d l j)))
 
   -- what follows it is on the same world
-  pub no-follow-then : {A : Type 0} (p : Path) (ls : List Path) (f : Walked → Prog A) → run (no_follow most_links p ls >>= f) w ≡ onto (run (no_follow most_links p ls) w) (λ a. run (f a) w)
-  no-follow-then p ls f = tells_then (no_follow most_links p ls) f w _ (no-follow-tells most_links p ls ls (40 + length ls) (omega arith) (λ d i. inl i))
+  pub no_follow_then : {A : Type 0} (p : Path) (ls : List Path) (f : Walked → Prog A) → run (no_follow most_links p ls >>= f) w ≡ onto (run (no_follow most_links p ls) w) (λ a. run (f a) w)
+  no_follow_then p ls f = tells_then (no_follow most_links p ls) f w _ (no_follow-tells most_links p ls ls (40 + length ls) (omega arith) (λ d i. inl i))
 
   -- ---- lookup_entry_detail
 
@@ -155,7 +155,7 @@ module _ (w : World) where
       ((ms : List Path) (d : Path) → length ms ≤ 40 + length ls → Links w o ms → Link w d → Tells (f ms d) w (Tracks o n)) →
       Tells (no_follow most_links p ls >>= λ a. reached a.end a.links (f a.links)) w (Tracks o n)
   unfolding reached
-  reached-tells o n p ls f h l k = tells-bind (no_follow most_links p ls) _ w _ _ (no-follow-tells 40 p o ls _ (omega arith) l) (λ a e. go a.end a.links e.again e.short e.listed)
+  reached-tells o n p ls f h l k = tells-bind (no_follow most_links p ls) _ w _ _ (no_follow-tells 40 p o ls _ (omega arith) l) (λ a e. go a.end a.links e.again e.short e.listed)
     where
       go : (m : End) (ms : List Path) → run (until_symlink [] (path_of m)) w ≡ done (ends m) w → length ms ≤ 40 + length ls → Links w o ms → Tells (reached m ms (f ms)) w (Tracks o n)
       go (found d c) ms e s i = record { again = e; short = omega arith; listed = i }

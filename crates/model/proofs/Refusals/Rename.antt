@@ -86,9 +86,9 @@ module _ (w : World) (b : ℕ) (few : links_in w.at ≤ b) (q : Path) {m : O.Par
   rename-lands up = (take-lands, lookup-reaches (apply (take old) w) (parents-cut old w.at up) b m.before take-lands.runs)
 
   -- once the old entry is out nothing is refused
-  pub take-goes-on : (t : Time) → is_refused (run (O.take_then_make b old m t) w) ≡ false
+  pub take-goes_on : (t : Time) → is_refused (run (O.take_then_make b old m t) w) ≡ false
   unfolding run O.take_then_make ◌>>=◌ ◌>>◌
-  take-goes-on t = ap is_refused (bind-run (lookup b m.before) rest v v take-lands.runs) ∙ never-refused (rest at) v steady
+  take-goes_on t = ap is_refused (bind-run (lookup b m.before) rest v v take-lands.runs) ∙ never-refused (rest at) v steady
     where
       v : World
       v = apply (take old) w
@@ -114,7 +114,7 @@ late-apart b t p q w few =
     late-bind _ _ w (pure-lookup b q) λ y walk.
     late-bind _ _ w (pure-replaces v.kind y.path y.kind) λ _ _.
     late-bind _ _ w (pure-last_entry b p) λ o _.
-    accepted-never-late _ w (refused_then _ _ w (take-goes-on w b few q cut_at walk o.path t) λ _. never-ret _)
+    accepted-never-late _ w (refused_then _ _ w (take-goes_on w b few q cut_at walk o.path t) λ _. never-ret _)
 
 -- no refusal comes after an edit
 pub late-rename : (b : ℕ) (s d : Bytes) (t : Time) (w : World) → links_in w.at ≤ b → late (O.on_paths s d (O.rename_at b t)) w ≡ false

@@ -14,8 +14,8 @@ use Rattle.model.specs.Prog.{World, Edit, make, create, symlink, change, remove,
 use Rattle.model.specs.Rules.{names_ok, NodeOk}
 use Rattle.model.proofs.Entries.{clash, some_inj, behind-self, look_none, under_look}
 use Rattle.model.proofs.Sound.Worlds.{Tidy, Rooted, FilesOk, OpensOk, Sound, Housed, Vacant, ChangeOk, Allowed}
-use Rattle.model.proofs.Sound.Entries.{put_some, cut_some, give_some, Fit, tidy-put, tidy-cut, tidy-under, tidy-give, tidy_none}
-use Rattle.model.proofs.Sound.Files.{Covers, meta-changed, tidy-covered, opens-covered, set-covers, set-ok, new-free, more-covers, more-ok, more-has, opens-more, close_none, opens-less, opens-moved}
+use Rattle.model.proofs.Sound.Entries.{put_some, cut_some, give_some, Fit, tidy-put, tidy-cut, tidy_under, tidy-give, tidy_none}
+use Rattle.model.proofs.Sound.Files.{Covers, meta-changed, tidy-covered, opens-covered, set-covers, set-ok, new-free, more_covers, more_ok, more_has, opens_more, close_none, opens-less, opens-moved}
 
 -- a directory and a link are no files
 dir_no_file : {m : Meta} {i : ℕ} → dir m ≡ file i → ⊥
@@ -93,7 +93,7 @@ module _ (w : World) (s : Sound w) where
   sound-open n p k a (some (dir m)) e = s
   sound-open n p k a (some (file i)) e =
       reopen ((record { num = n; id = i; pos = k; kept = p }) ∷ close_num n w.opens)
-      (opens-more w.files (close_num n w.opens) (record { num = n; id = i; pos = k; kept = p }) (close_none n w.opens n a.0)
+      (opens_more w.files (close_num n w.opens) (record { num = n; id = i; pos = k; kept = p }) (close_none n w.opens n a.0)
       (record { small = a.1; place = a.2; path = a.3; stands = s.tree.nodes p (file i) e }) (opens-less w.files n w.opens s.numbers))
   sound-open n p k a (some (link m g)) e = s
 
@@ -105,7 +105,7 @@ module _ (w : World) (s : Sound w) where
   unfolding apply
   sound-take p = record {
     tree = tidy-cut w.files w.at s.tree p;
-    in_hand = tidy-under w.files w.at s.tree p;
+    in_hand = tidy_under w.files w.at s.tree p;
     root = λ n e. s.root n (cut_some p w.at [] n e).1;
     apart = λ q r i l v.
         let c = cut_some p w.at q (file i) l in
@@ -137,7 +137,7 @@ module _ (w : World) (s : Sound w) where
 sound-create : (w : World) → Sound w → (p : Path) (f : File) → Allowed (create p f) w → Sound (apply (create p f) w)
 unfolding apply
 sound-create w s p f a =
-    placed v u p (file (new_id fs)) a.0.named (more-has (new_id fs) f fs (new-free fs)) a.0.housed (none_below v u p (file (new_id fs)) a.0)
+    placed v u p (file (new_id fs)) a.0.named (more_has (new_id fs) f fs (new-free fs)) a.0.housed (none_below v u p (file (new_id fs)) a.0)
     (λ e. absurd (a.0.below e)) (λ i e. (unused i e w.at s.tree, unused i e w.hand s.in_hand))
   where
     fs : Files
@@ -147,7 +147,7 @@ sound-create w s p f a =
     v = with_files w ((new_id fs, f) ∷ fs)
 
     u : Sound v
-    u = refile w s ((new_id fs, f) ∷ fs) (more-ok (new_id fs) f fs (new-free fs) a.1 s.table) (more-covers (new_id fs) f fs (new-free fs))
+    u = refile w s ((new_id fs, f) ∷ fs) (more_ok (new_id fs) f fs (new-free fs) a.1 s.table) (more_covers (new_id fs) f fs (new-free fs))
 
     unused : (i : ℕ) → file (new_id fs) ≡ file i → (t : Entries) → Tidy fs t → Absent i t
     unused i e t h q l =

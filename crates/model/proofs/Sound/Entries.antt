@@ -153,8 +153,8 @@ module _ (fs : Files) (t : Entries) (s : Tidy fs t) (p : Path) where
           go (some r) e = clash (behind p (q ++ (x ∷ []))) (r ++ (x ∷ [])) h (behind-snoc p q r x e)
 
   -- a subtree by itself
-  pub tidy-under : Tidy fs (under p t)
-  tidy-under = record {
+  pub tidy_under : Tidy fs (under p t)
+  tidy_under = record {
     paths = apart_under p t s.paths;
     parents = λ q x m h. let d = s.parents (p ++ q) x m (rw append_assoc (sym (under_look p (q ++ (x ∷ [])) t) ∙ h)) in (d.0, under_look p q t ∙ d.1);
     named = λ q m h. names_right p q (s.named (p ++ q) m (sym (under_look p q t) ∙ h));

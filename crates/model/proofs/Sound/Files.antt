@@ -179,23 +179,23 @@ new-free fs = new_none fs (new_id fs) (omega arith)
 
 module _ (i : ℕ) (f : File) (fs : Files) (n : file_of fs i ≡ none) where
   -- a table with a file more
-  pub more-covers : Covers fs ((i, f) ∷ fs)
+  pub more_covers : Covers fs ((i, f) ∷ fs)
   unfolding file_of
-  more-covers j (g, e) = (g, rw (ne_eqb i j (λ k. clash (file_of fs j) g (subst (λ (x : ℕ). file_of fs x ≡ none) k n) e)) e)
+  more_covers j (g, e) = (g, rw (ne_eqb i j (λ k. clash (file_of fs j) g (subst (λ (x : ℕ). file_of fs x ≡ none) k n) e)) e)
 
   -- its rules
-  pub more-ok : FileOk f → FilesOk fs → FilesOk ((i, f) ∷ fs)
+  pub more_ok : FileOk f → FilesOk fs → FilesOk ((i, f) ∷ fs)
   unfolding file_of
-  more-ok m s = record { once = (n, s.once); each = λ j g. go j g (eqb i j) }
+  more_ok m s = record { once = (n, s.once); each = λ j g. go j g (eqb i j) }
     where
       go : (j : ℕ) (g : File) (b : Bool) → or_else b f (file_of fs j) ≡ some g → FileOk g
       go j g true e = subst FileOk (some_inj e) m
       go j g false e = s.each j g e
 
   -- where the new number has its file
-  pub more-has : HasFile ((i, f) ∷ fs) i
+  pub more_has : HasFile ((i, f) ∷ fs) i
   unfolding file_of
-  more-has = (f, rw (is_true (eqb i i) (eqb_refl i)))
+  more_has = (f, rw (is_true (eqb i i) (eqb_refl i)))
 
 -- ---- the open numbers
 
@@ -259,9 +259,9 @@ seek-once n k (o ∷ os) h =
 
 module _ (fs : Files) where
   -- a number more
-  pub opens-more : (os : List Open) (o : Open) → open_of os o.num ≡ none → OpenOk fs o.num o → OpensOk fs os → OpensOk fs (o ∷ os)
+  pub opens_more : (os : List Open) (o : Open) → open_of os o.num ≡ none → OpenOk fs o.num o → OpensOk fs os → OpensOk fs (o ∷ os)
   unfolding open_of
-  opens-more os o n k s = record { once = (n, s.once); each = λ m u. go m u (eqb o.num m) refl }
+  opens_more os o n k s = record { once = (n, s.once); each = λ m u. go m u (eqb o.num m) refl }
     where
       go : (m : ℕ) (u : Open) (b : Bool) → eqb o.num m ≡ b → or_else b o (open_of os m) ≡ some u → OpenOk fs m u
       go m u true y e = subst (λ (x : ℕ). OpenOk fs x u) (eqb→eq o.num m (of_true y)) (subst (OpenOk fs o.num) (some_inj e) k)

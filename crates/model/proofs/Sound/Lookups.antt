@@ -46,17 +46,17 @@ none_seen t p e = go (look t p) refl e
     go (some n) y e = clash (some (node_kind n)) (node_kind n) e refl
 
 module _ (fs : Files) (t : Entries) (s : Tidy fs t) where
-  none-next : (d : Path) (x : Name) → kind_at t d ≡ none → kind_at t (d ++ (x ∷ [])) ≡ none
-  none-next d x e = go (look t (d ++ (x ∷ []))) refl
+  none_next : (d : Path) (x : Name) → kind_at t d ≡ none → kind_at t (d ++ (x ∷ [])) ≡ none
+  none_next d x e = go (look t (d ++ (x ∷ []))) refl
     where
       go : (o : Option Node) → look t (d ++ (x ∷ [])) ≡ o → on_some o (λ n. some (node_kind n)) ≡ none
       go none y = refl
       go (some n) y = let v = s.parents d x n y in clash (look t d) (dir v.0) (none_seen t d e) v.1
 
   -- below what is missing all is
-  none-on : (d r : Path) → kind_at t d ≡ none → kind_at t (d ++ r) ≡ none
-  none-on d [] e = rw (append-nil d) e
-  none-on d (x ∷ r) e = subst (λ (q : Path). kind_at t q ≡ none) (append_snoc d x r) (none-on (d ++ (x ∷ [])) r (none-next d x e))
+  none_on : (d r : Path) → kind_at t d ≡ none → kind_at t (d ++ r) ≡ none
+  none_on d [] e = rw (append-nil d) e
+  none_on d (x ∷ r) e = subst (λ (q : Path). kind_at t q ≡ none) (append_snoc d x r) (none_on (d ++ (x ∷ [])) r (none_next d x e))
 
 -- each path from d on, before the last of the names to come, is a directory if it stands
 abbrev pub Clear : Entries → Path → List Name → Type 0
@@ -65,7 +65,7 @@ Clear t d (x ∷ r) = ((k : Kind) → kind_at t d ≡ some k → k ≡ a_dir) ×
 
 none_clear : (fs : Files) (t : Entries) → Tidy fs t → (d r : Path) → kind_at t d ≡ none → Clear t d r
 none_clear fs t s d [] e = tt
-none_clear fs t s d (x ∷ r) e = (λ k h. clash (kind_at t d) k e h, none_clear fs t s (d ++ (x ∷ [])) r (none-next fs t s d x e))
+none_clear fs t s d (x ∷ r) e = (λ k h. clash (kind_at t d) k e h, none_clear fs t s (d ++ (x ∷ [])) r (none_next fs t s d x e))
 
 -- ---- the walk to the first link
 
@@ -154,7 +154,7 @@ module _ (w : World) (s : Sound w) where
           over : Walks w.at d (x ∷ r) (d ++ (x ∷ r)) none
           over = record {
             all = refl;
-            kind = none-on w.files w.at s.tree d (x ∷ r) e;
+            kind = none_on w.files w.at s.tree d (x ∷ r) e;
             no_link = λ z. clash none a_link refl z;
             clear = none_clear w.files w.at s.tree d (x ∷ r) e;
           }
@@ -173,9 +173,9 @@ module _ (w : World) (s : Sound w) where
       go (some (file i)) e = target_none
       go (some (link m g)) e = (s.tree.nodes d (link m g) e).1
 
-  behindLink-says : (d r : Path) → Says (λ q. T (names_ok (d ++ r)) → T (path_ok q)) (behind_link d r) w
+  behind_link-says : (d r : Path) → Says (λ q. T (names_ok (d ++ r)) → T (path_ok q)) (behind_link d r) w
   unfolding behind_link ◌>>◌
-  behindLink-says d r =
+  behind_link-says d r =
       then (asks-says (target? d) w) λ g e.
       then (need-says (path_fits (followed (drop_last d) (text_or g) r)) 6 w) λ _ f.
       gives (refl, λ n. path_both (followed (drop_last d) (text_or g) r) (followed-names d (text_or g) r (names_left d r n) (subst (λ x. T (target_ok (text_or x))) e (target_ok_lem d)) (names_right d r n)) f)
@@ -195,14 +195,14 @@ module _ (w : World) (s : Sound w) where
   ended-says p ls (mid_link d r) f h i = i d r h
 
   -- a no-follow lookup, with k links before the last name still allowed
-  pub noFollow-says : (k : ℕ) (p : Path) (ls : List Path) → Says (Walked-says p) (no_follow k p ls) w
+  pub no_follow-says : (k : ℕ) (p : Path) (ls : List Path) → Says (Walked-says p) (no_follow k p ls) w
   unfolding no_follow
-  noFollow-says zero p ls = then (until-says [] p) λ m h. ended-says p ls m _ h (λ d r e. stops)
-  noFollow-says (suc k) p ls =
+  no_follow-says zero p ls = then (until-says [] p) λ m h. ended-says p ls m _ h (λ d r e. stops)
+  no_follow-says (suc k) p ls =
       then (until-says [] p) λ m h.
       ended-says p ls m _ h λ d r e.
-      then (behindLink-says d r) λ q j.
-      weaken (noFollow-says k q (ls ++ (d ∷ []))) (λ a v x. (x.0, λ n. x.1 (j (subst (λ (y : Path). T (names_ok y)) (sym e) (path_names p n)))))
+      then (behind_link-says d r) λ q j.
+      weaken (no_follow-says k q (ls ++ (d ∷ []))) (λ a v x. (x.0, λ n. x.1 (j (subst (λ (y : Path). T (names_ok y)) (sym e) (path_names p n)))))
 
   reached-says : (p : Path) (m : End) (ls : List Path) (f : Path → Prog Where) → (T (path_ok p) → Ended w.at m)
       → ((d : Path) → (T (path_ok p) → T (path_ok d)) → Says (Where-says p) (f d) w) → Says (Where-says p) (reached m ls f) w
@@ -213,11 +213,11 @@ module _ (w : World) (s : Sound w) where
 
   following-says : (b : ℕ) (p : Path) (ls : List Path) → Says (Where-says p) (following b p ls) w
   unfolding following
-  following-says zero p ls = then (noFollow-says most_links p ls) λ a h. reached-says p a.end a.links _ h (λ d i. stops)
+  following-says zero p ls = then (no_follow-says most_links p ls) λ a h. reached-says p a.end a.links _ h (λ d i. stops)
   following-says (suc b) p ls =
-      then (noFollow-says most_links p ls) λ a h.
+      then (no_follow-says most_links p ls) λ a h.
       reached-says p a.end a.links _ h λ d i.
-      then (behindLink-says d []) λ q j.
+      then (behind_link-says d []) λ q j.
       weaken (following-says b q (a.links ++ (d ∷ []))) (λ c v x. (x.0, λ n. x.1 (j (rw (append-nil d) (path_names d (i n))))))
 
   -- the answer of a lookup stands in the tree as it says, or is missing there

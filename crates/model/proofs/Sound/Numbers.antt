@@ -20,7 +20,7 @@ use Rattle.model.specs.Rules.{bytes_ok}
 use Rattle.model.specs.Passable.{Unsigned32, Unsigned64}
 use Rattle.model.proofs.Entries.{clash, some_inj}
 use Rattle.model.proofs.Sound.Worlds.{Sound, GivenOk}
-use Rattle.model.proofs.Sound.Parts.{Fine, onlyFile-quiet, onlyDir-quiet, need-quiet}
+use Rattle.model.proofs.Sound.Parts.{Fine, only_file-quiet, only_dir-quiet, need-quiet}
 use Rattle.model.proofs.Sound.Operations.{Small, bytes-long, file-bytes, metadata-fine}
 use Rattle.model.proofs.Sound.Meets.{gives, asked, edited, Says, then, asks-says, need-says, must-says}
 
@@ -33,25 +33,25 @@ set_umask-fine w new k = asked (edited {e = umask new} k (gives tt))
 
 module _ (w : World) (p : Path) where
   -- a removal asks nothing of the tree
-  pub aFileOut-fine : (o : Option Kind) → Fine (a_file_out p o) w
+  pub a_file_out-fine : (o : Option Kind) → Fine (a_file_out p o) w
   unfolding a_file_out ◌>>◌
-  aFileOut-fine o = then (must-says o w) λ k _. then (onlyFile-quiet w k) λ _ _. edited {e = remove p} tt (gives tt)
+  a_file_out-fine o = then (must-says o w) λ k _. then (only_file-quiet w k) λ _ _. edited {e = remove p} tt (gives tt)
 
   -- nor does one of a directory
-  pub aDirOut-fine : (o : Option Kind) → Fine (a_dir_out p o) w
+  pub a_dir_out-fine : (o : Option Kind) → Fine (a_dir_out p o) w
   unfolding a_dir_out ◌>>◌
-  aDirOut-fine o =
+  a_dir_out-fine o =
       then (must-says o w) λ k _.
-      then (onlyDir-quiet w k) λ _ _.
+      then (only_dir-quiet w k) λ _ _.
       then (asks-says (bare? p) w) λ n _.
       then (need-quiet w n 12) λ _ _.
       edited {e = remove p} tt (gives tt)
 
   -- nor one of a tree
-  pub aTreeOut-fine : (o : Option Kind) → Fine (a_tree_out p o) w
+  pub a_tree_out-fine : (o : Option Kind) → Fine (a_tree_out p o) w
   unfolding a_tree_out ◌>>◌
-  aTreeOut-fine none = gives tt
-  aTreeOut-fine (some k) = then (onlyDir-quiet w k) λ _ _. edited {e = remove p} tt (gives tt)
+  a_tree_out-fine none = gives tt
+  a_tree_out-fine (some k) = then (only_dir-quiet w k) λ _ _. edited {e = remove p} tt (gives tt)
 
 -- ---- bytes cut or filled up with zeros
 
@@ -96,28 +96,28 @@ seek_from-says w (suc (suc n)) offset at size k = from_end-says w size offset
 
 module _ (w : World) (n : ℕ) where
   -- a close asks nothing
-  pub closeNumber-fine : Fine (close_on n) w
+  pub close_number-fine : Fine (close_on n) w
   unfolding close_on ◌>>◌ ◌>>=◌
-  closeNumber-fine = edited {e = close n} tt (gives tt)
+  close_number-fine = edited {e = close n} tt (gives tt)
 
   -- a seek ends within 64 bits
-  pub seekNumber-fine : (origin offset : ℕ) → Unsigned64 offset → Fine (seek_on n origin offset) w
+  pub seek_number-fine : (origin offset : ℕ) → Unsigned64 offset → Fine (seek_on n origin offset) w
   unfolding seek_on ◌>>◌ ◌>>=◌
-  seekNumber-fine origin offset k =
+  seek_number-fine origin offset k =
       then (asks-says (open? n) w) λ o _.
       then (asks-says (held? n) w) λ d _.
       then (seek_from-says w origin offset (position_or o).pos (length (text_or d)) k) λ a l.
       edited {e = seek n a} l (gives tt)
 
   -- the mode fits
-  pub setMode-fine : (mode : ℕ) → Unsigned32 mode → Fine (set_mode_on n mode) w
+  pub set_mode-fine : (mode : ℕ) → Unsigned32 mode → Fine (set_mode_on n mode) w
   unfolding set_mode_on ◌>>◌ ◌>>=◌
-  setMode-fine mode k = edited {e = change_held n (chmod mode)} k (gives tt)
+  set_mode-fine mode k = edited {e = change_held n (chmod mode)} k (gives tt)
 
   -- each time that is given fits
-  pub setTimesNumber-fine : (a m : Option Time) → GivenOk a → GivenOk m → Fine (set_times_on n a m) w
+  pub set_times_number-fine : (a m : Option Time) → GivenOk a → GivenOk m → Fine (set_times_on n a m) w
   unfolding set_times_on ◌>>◌ ◌>>=◌
-  setTimesNumber-fine a m k l = edited {e = change_held n (touch_some a m)} (k, l) (gives tt)
+  set_times_number-fine a m k l = edited {e = change_held n (touch_some a m)} (k, l) (gives tt)
 
   module _ (s : Sound w) where
     -- the position of an open number fits 64 bits
@@ -148,14 +148,14 @@ module _ (w : World) (n : ℕ) where
         go (some u) = bytes-long w.files m u.id
 
     -- a new length leaves bytes
-    pub setLength-fine : (k : ℕ) → Fine (set_length_on n k) w
+    pub set_length-fine : (k : ℕ) → Fine (set_length_on n k) w
     unfolding set_length_on ◌>>◌ ◌>>=◌
-    setLength-fine k = then (asks-says (held? n) w) λ d e. edited {e = change_held n (resize (resized k (text_or d)))} (resized-bytes k (text_or d) (held_bytes d e)) (gives tt)
+    set_length-fine k = then (asks-says (held? n) w) λ d e. edited {e = change_held n (resize (resized k (text_or d)))} (resized-bytes k (text_or d) (held_bytes d e)) (gives tt)
 
     -- a read ends within 64 bits
-    pub readNumber-fine : Small w.files → (lent : ℕ) → Fine (read_on n lent) w
+    pub read_number-fine : Small w.files → (lent : ℕ) → Fine (read_on n lent) w
     unfolding read_on read_part ◌>>◌ ◌>>=◌
-    readNumber-fine m lent =
+    read_number-fine m lent =
         then (asks-says (open? n) w) λ q e.
         then (asks-says (held? n) w) λ d y.
         edited {e = seek n ((position_or q).pos + length (read_part (position_or q) (text_or d) lent))}
@@ -169,6 +169,6 @@ module _ (w : World) (n : ℕ) where
         at (some o) e = open-long o e
 
     -- metadata by number edits nothing
-    pub metadataNumber-fine : (b lent : ℕ) → Fine (metadata_on b n lent) w
+    pub metadata_number-fine : (b lent : ℕ) → Fine (metadata_on b n lent) w
     unfolding metadata_on
-    metadataNumber-fine b lent = then (asks-says (open? n) w) λ o _. metadata-fine w s b lent (position_or o).kept
+    metadata_number-fine b lent = then (asks-says (open? n) w) λ o _. metadata-fine w s b lent (position_or o).kept

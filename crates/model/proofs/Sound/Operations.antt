@@ -18,9 +18,9 @@ use Rattle.model.specs.Rules.{path_ok, target_ok, bytes_ok, FileOk}
 use Rattle.model.specs.Passable.{Unsigned32, Unsigned64, Signed64}
 use Rattle.model.proofs.Entries.{clash}
 use Rattle.model.proofs.Sound.Worlds.{FilesOk, Sound, Vacant}
-use Rattle.model.proofs.Sound.Lookups.{dir-shows, Stands, noFollow-says}
+use Rattle.model.proofs.Sound.Lookups.{dir-shows, Stands, no_follow-says}
 use Rattle.model.proofs.Sound.Files.{set_each}
-use Rattle.model.proofs.Sound.Parts.{Fine, Quiet, fresh_ok, dir-ok, link-ok, vacant, onlyFile-quiet, onlyDir-quiet, notFile-quiet, notDir-says, need-quiet, parentStands-says, onPath-fine, found-says, leads-says, Entered, lastEntry-says, newMode-says, openWalk-says, made}
+use Rattle.model.proofs.Sound.Parts.{Fine, Quiet, fresh_ok, dir-ok, link-ok, vacant, only_file-quiet, only_dir-quiet, not_file-quiet, not_dir-says, need-quiet, parent_stands-says, on_path-fine, found-says, leads-says, Entered, last_entry-says, new_mode-says, open_walk-says, made}
 use Rattle.model.proofs.Sound.Meets.{Meets, gives, stops, asked, edited, Says, then, bind, asks-says, need-says, must-says}
 
 -- every file's length fits 64 bits
@@ -82,9 +82,9 @@ module _ (w : World) (s : Sound w) (b : ℕ) where
   -- ---- canonicalize, current directory
 
   -- "`""` is 8"
-  pub onGiven-fine : (g : Bytes) (f : Path → Prog Reply) → T (target_ok g) → ((p : Path) → T (path_ok p) → Fine (f p) w) → Fine (O.on_given g f) w
+  pub on_given-fine : (g : Bytes) (f : Path → Prog Reply) → T (target_ok g) → ((p : Path) → T (path_ok p) → Fine (f p) w) → Fine (O.on_given g f) w
   unfolding O.on_given ◌>>◌
-  onGiven-fine g f t k = then (need-quiet w (not (is_nil g)) 8) λ _ _. onPath-fine w s g f t k
+  on_given-fine g f t k = then (need-quiet w (not (is_nil g)) 8) λ _ _. on_path-fine w s g f t k
 
   -- canonicalize edits nothing
   pub canonicalize-fine : (lent : ℕ) (p : Path) → Fine (O.canonicalize_at b lent p) w
@@ -92,18 +92,18 @@ module _ (w : World) (s : Sound w) (b : ℕ) where
   canonicalize-fine lent p = then (leads-says w s b p) λ a _. then (need-quiet w _ 14) λ _ _. gives tt
 
   -- the current directory is a path that a state may keep
-  pub setCurrentDir-fine : (p : Path) → T (path_ok p) → Fine (O.set_current_dir_at b p) w
+  pub set_current_dir-fine : (p : Path) → T (path_ok p) → Fine (O.set_current_dir_at b p) w
   unfolding O.set_current_dir_at ◌>>◌ ◌>>=◌
-  setCurrentDir-fine p ok = then (leads-says w s b p) λ a k. edited {e = go a.path} (k ok).path (gives tt)
+  set_current_dir-fine p ok = then (leads-says w s b p) λ a k. edited {e = go a.path} (k ok).path (gives tt)
 
   -- ---- create directory
 
   -- each directory is made below a directory
-  pub createDir-fine : (t : Time) (p : Path) → Signed64 t → T (path_ok p) → Fine (O.create_dir_at b t p) w
+  pub create_dir-fine : (t : Time) (p : Path) → Signed64 t → T (path_ok p) → Fine (O.create_dir_at b t p) w
   unfolding O.create_dir_at ◌>>◌
-  createDir-fine t p c ok =
+  create_dir-fine t p c ok =
       then (found-says w s b p ok) λ a e.
-      then (notFile-quiet w a.kind) λ _ _.
+      then (not_file-quiet w a.kind) λ _ _.
       bind (made (fresh_dir t) a.path w (dir-ok t c) a.kind e) λ _ _ _.
       gives tt
 
@@ -115,19 +115,19 @@ module _ (w : World) (s : Sound w) (b : ℕ) where
       edited {e = change p (write [] t)} (no_bytes_lem, k) (gives (change-opens w p (write [] t) (look w.at p), change-small w p t (look w.at p) m))
   truncated-meets m false p t k = gives (refl, m)
 
-  openEntry-fine : Small w.files → (o : Opening) (n : ℕ) (t : Time) (p : Path) → ((m : ℕ) → o.mode ≡ some m → Unsigned32 m) → Signed64 t → n ≤ 31
+  open_entry-fine : Small w.files → (o : Opening) (n : ℕ) (t : Time) (p : Path) → ((m : ℕ) → o.mode ≡ some m → Unsigned32 m) → Signed64 t → n ≤ 31
       → open_of w.opens n ≡ none → (p ≡ [] → ⊥) → (k : Option Kind) → Stands w.at p k → Fine (O.open_entry o n t p k) w
   unfolding O.open_entry apply ◌>>◌ ◌>>=◌
-  openEntry-fine m o n t p k c l u r (some j) e =
-      then (onlyFile-quiet w j) λ _ _.
+  open_entry-fine m o n t p k c l u r (some j) e =
+      then (only_file-quiet w j) λ _ _.
       then (need-quiet w (not o.create_new) 12) λ _ _.
       bind (truncated-meets m o.truncate p t c) λ _ v y.
       then (start-says v y.1 o.append p) λ a z.
       edited {e = opens n p a} (ap (λ (os : List Open). open_of os n) y.0 ∙ u, l, z, e.path) (gives tt)
-  openEntry-fine m o n t p k c l u r none e =
-      then (parentStands-says w p) λ _ j.
+  open_entry-fine m o n t p k c l u r none e =
+      then (parent_stands-says w p) λ _ j.
       then (need-quiet w o.create 8) λ _ _.
-      then (newMode-says w s o.mode k) λ d i.
+      then (new_mode-says w s o.mode k) λ d i.
       edited {e = create p (record { meta = fresh d t; bytes = [] })} (vacant w.at p e r j.0 j.1, (fresh_ok d t i c, no_bytes_lem))
       (edited {e = opens n p 0} (u, l, lit< tt, e.path) (gives tt))
 
@@ -136,8 +136,8 @@ module _ (w : World) (s : Sound w) (b : ℕ) where
       → open_of w.opens n ≡ none → T (path_ok p) → Fine (O.open_at b o n t p) w
   unfolding O.open_at ◌>>◌
   open-fine m o n t p k c l u ok =
-      then (openWalk-says w s b p ok) λ a e.
-      bind (openEntry-fine m o n t a.path k c l u e.1 a.kind e.0) λ _ _ _.
+      then (open_walk-says w s b p ok) λ a e.
+      bind (open_entry-fine m o n t a.path k c l u e.1 a.kind e.0) λ _ _ _.
       gives tt
 
   -- ---- read, write, copy, hard link
@@ -156,9 +156,9 @@ module _ (w : World) (s : Sound w) (b : ℕ) where
   source-says : (p : Path) → T (path_ok p) → Says (λ c. T (bytes_ok c.bytes)) (O.source_at b p) w
   unfolding O.source_at ◌>>◌
   source-says p ok =
-      then (openWalk-says w s b p ok) λ a _.
+      then (open_walk-says w s b p ok) λ a _.
       then (must-says a.kind w) λ k _.
-      then (onlyFile-quiet w k) λ _ _.
+      then (only_file-quiet w k) λ _ _.
       then (asks-says (bytes? a.path) w) λ c e.
       gives (refl, read-bytes a.path c e)
 
@@ -171,42 +171,42 @@ module _ (w : World) (s : Sound w) (b : ℕ) where
       gives tt
 
   module _ (t : Time) (tk : Signed64 t) where
-    writeEntry-fine : (d : Bytes) → T (bytes_ok d) → (p : Path) → (p ≡ [] → ⊥) → (o : Option Kind) → Stands w.at p o → Fine (O.write_entry t d p o) w
+    write_entry-fine : (d : Bytes) → T (bytes_ok d) → (p : Path) → (p ≡ [] → ⊥) → (o : Option Kind) → Stands w.at p o → Fine (O.write_entry t d p o) w
     unfolding O.write_entry ◌>>◌
-    writeEntry-fine d dk p r (some j) e = then (onlyFile-quiet w j) λ _ _. edited {e = change p (write d t)} (dk, tk) (gives tt)
-    writeEntry-fine d dk p r none e =
-        then (parentStands-says w p) λ _ j.
-        then (newMode-says w s none (λ m z. clash none m refl z)) λ m i.
+    write_entry-fine d dk p r (some j) e = then (only_file-quiet w j) λ _ _. edited {e = change p (write d t)} (dk, tk) (gives tt)
+    write_entry-fine d dk p r none e =
+        then (parent_stands-says w p) λ _ j.
+        then (new_mode-says w s none (λ m z. clash none m refl z)) λ m i.
         edited {e = create p (record { meta = fresh m t; bytes = d })} (vacant w.at p e r j.0 j.1, (fresh_ok m t i tk, dk)) (gives tt)
 
-    writeTo-fine : (d : Bytes) → T (bytes_ok d) → (p : Path) → T (path_ok p) → Fine (O.write_to b t d p) w
+    write_to-fine : (d : Bytes) → T (bytes_ok d) → (p : Path) → T (path_ok p) → Fine (O.write_to b t d p) w
     unfolding O.write_to ◌>>◌
-    writeTo-fine d dk p ok =
-        then (openWalk-says w s b p ok) λ a e.
-        bind (writeEntry-fine d dk a.path e.1 a.kind e.0) λ _ _ _.
+    write_to-fine d dk p ok =
+        then (open_walk-says w s b p ok) λ a e.
+        bind (write_entry-fine d dk a.path e.1 a.kind e.0) λ _ _ _.
         gives tt
 
     -- write makes a file only below a directory
     pub write-fine : (d : Bytes) (p : Path) → T (bytes_ok d) → T (path_ok p) → Fine (O.write_at b t d p) w
     unfolding O.write_at
-    write-fine d p dk ok = bind (writeTo-fine d dk p ok) λ _ _ _. gives tt
+    write-fine d p dk ok = bind (write_to-fine d dk p ok) λ _ _ _. gives tt
 
     -- so does copy
     pub copy-fine : (p q : Path) → T (path_ok p) → T (path_ok q) → Fine (O.copy_at b t p q) w
     unfolding O.copy_at
     copy-fine p q pk qk =
         then (source-says p pk) λ c ck.
-        bind (writeTo-fine c.bytes ck q qk) λ _ _ _.
+        bind (write_to-fine c.bytes ck q qk) λ _ _ _.
         gives tt
 
     -- and hard link
-    pub hardLink-fine : (p q : Path) → T (path_ok q) → Fine (O.hard_link_at b t p q) w
+    pub hard_link-fine : (p q : Path) → T (path_ok q) → Fine (O.hard_link_at b t p q) w
     unfolding O.hard_link_at ◌>>◌
-    hardLink-fine p q qk =
+    hard_link-fine p q qk =
         then (leads-says w s b p) λ a _.
-        then (onlyFile-quiet w a.kind) λ _ _.
+        then (only_file-quiet w a.kind) λ _ _.
         then (asks-says (bytes? a.path) w) λ c e.
-        bind (writeTo-fine (text_or c) (read-bytes a.path c e) q qk) λ _ _ _.
+        bind (write_to-fine (text_or c) (read-bytes a.path c e) q qk) λ _ _ _.
         gives tt
 
   -- ---- link, remove
@@ -215,8 +215,8 @@ module _ (w : World) (s : Sound w) (b : ℕ) where
   pub link-fine : (target : Bytes) (t : Time) (p : Path) → T (target_ok target) → Signed64 t → T (path_ok p) → Fine (O.link_at b target t p) w
   unfolding O.link_at ◌>>◌ ◌>>=◌
   link-fine target t p y c ok =
-      then (lastEntry-says w s b p ok) λ a e.
-      then (notDir-says w a.kind) λ _ u.
+      then (last_entry-says w s b p ok) λ a e.
+      then (not_dir-says w a.kind) λ _ u.
       let v : Vacant a.path w.at = record {
         named = e.named;
         below = e.below;
@@ -229,7 +229,7 @@ module _ (w : World) (s : Sound w) (b : ℕ) where
   pub remove-fine : (f : Path → Option Kind → Prog (Unit {0})) (p : Path) → T (path_ok p) → ((p : Path) (e : Option Kind) → Fine (f p e) w) → Fine (O.remove_at f b p) w
   unfolding O.remove_at ◌>>◌
   remove-fine f p ok r =
-      then (lastEntry-says w s b p ok) λ a _.
+      then (last_entry-says w s b p ok) λ a _.
       bind (r a.path a.kind) λ _ _ _.
       gives tt
 
@@ -245,14 +245,14 @@ module _ (w : World) (s : Sound w) (b : ℕ) where
       gives tt
 
   -- the mode fits
-  pub setPermissions-fine : (mode : ℕ) (p : Path) → Unsigned32 mode → Fine (O.set_permissions_at b mode p) w
+  pub set_permissions-fine : (mode : ℕ) (p : Path) → Unsigned32 mode → Fine (O.set_permissions_at b mode p) w
   unfolding O.set_permissions_at ◌>>◌ ◌>>=◌
-  setPermissions-fine mode p k = then (leads-says w s b p) λ a _. edited {e = change a.path (chmod mode)} k (gives tt)
+  set_permissions-fine mode p k = then (leads-says w s b p) λ a _. edited {e = change a.path (chmod mode)} k (gives tt)
 
   -- "Set times takes the path raw": where it leads, if it leads anywhere, an entry stands
-  pub setTimes-fine : (g : Bytes) (first second : Time) → Signed64 first → Signed64 second → Fine (O.on_raw g (O.set_times_at b first second)) w
+  pub set_times-fine : (g : Bytes) (first second : Time) → Signed64 first → Signed64 second → Fine (O.on_raw g (O.set_times_at b first second)) w
   unfolding O.on_raw O.set_times_at ◌>>◌ ◌>>=◌
-  setTimes-fine g first second k l =
+  set_times-fine g first second k l =
       then (need-quiet w (is_absolute g) 8) λ _ _.
       then (leads-says w s b (names g)) λ a _.
       edited {e = change a.path (touch first second)} (k, l) (gives tt)
@@ -262,40 +262,40 @@ module _ (w : World) (s : Sound w) (b : ℕ) where
   unfolding O.list_at fits ◌>>◌
   list-fine lent rows p =
       then (leads-says w s b p) λ a _.
-      then (onlyDir-quiet w a.kind) λ _ _.
+      then (only_dir-quiet w a.kind) λ _ _.
       then (asks-says (list? a.path) w) λ l _.
       then (need-quiet w (leb (length (names_text l)) lent) 14) λ _ _.
       then (need-quiet w (leb (length l) rows) 14) λ _ _.
       gives tt
 
-  endThere-quiet : (m : End) → Quiet (O.end_there m) w
+  end_there-quiet : (m : End) → Quiet (O.end_there m) w
   unfolding O.end_there
-  endThere-quiet (found d k) = gives (refl, tt)
-  endThere-quiet (missing d) = stops
-  endThere-quiet (last_link d) = gives (refl, tt)
+  end_there-quiet (found d k) = gives (refl, tt)
+  end_there-quiet (missing d) = stops
+  end_there-quiet (last_link d) = gives (refl, tt)
 
-  onlyLink-quiet : (m : End) → Quiet (O.only_link m) w
+  only_link-quiet : (m : End) → Quiet (O.only_link m) w
   unfolding O.only_link
-  onlyLink-quiet (found d k) = stops
-  onlyLink-quiet (missing d) = stops
-  onlyLink-quiet (last_link d) = gives (refl, tt)
+  only_link-quiet (found d k) = stops
+  only_link-quiet (missing d) = stops
+  only_link-quiet (last_link d) = gives (refl, tt)
 
   -- symlink metadata edits nothing
-  pub symlinkMetadata-fine : (lent : ℕ) (p : Path) → Fine (O.symlink_metadata_at lent p) w
+  pub symlink_metadata-fine : (lent : ℕ) (p : Path) → Fine (O.symlink_metadata_at lent p) w
   unfolding O.symlink_metadata_at fits ◌>>◌
-  symlinkMetadata-fine lent p =
-      then (noFollow-says w s most_links p []) λ a _.
-      then (endThere-quiet a.end) λ d _.
+  symlink_metadata-fine lent p =
+      then (no_follow-says w s most_links p []) λ a _.
+      then (end_there-quiet a.end) λ d _.
       then (asks-says (stat? d) w) λ e _.
       then (need-quiet w (leb 1 lent) 14) λ _ _.
       gives tt
 
   -- nor does read link
-  pub readLink-fine : (lent : ℕ) (p : Path) → Fine (O.read_link_at lent p) w
+  pub read_link-fine : (lent : ℕ) (p : Path) → Fine (O.read_link_at lent p) w
   unfolding O.read_link_at fits ◌>>◌
-  readLink-fine lent p =
-      then (noFollow-says w s most_links p []) λ a _.
-      then (onlyLink-quiet a.end) λ d _.
+  read_link-fine lent p =
+      then (no_follow-says w s most_links p []) λ a _.
+      then (only_link-quiet a.end) λ d _.
       then (asks-says (target? d) w) λ e _.
       then (need-quiet w (leb (length (text_or e)) lent) 14) λ _ _.
       gives tt

@@ -78,39 +78,39 @@ vacant t (x ∷ p) s n k e = record {
 
 module _ (w : World) where
   -- 9: a directory is needed
-  pub isDirectory-says : (k : Kind) → Says (λ _. k ≡ a_dir) (is_directory k) w
+  pub is_directory-says : (k : Kind) → Says (λ _. k ≡ a_dir) (is_directory k) w
   unfolding is_directory
-  isDirectory-says a_dir = gives (refl, refl)
-  isDirectory-says aFile = stops
-  isDirectory-says a_link = stops
+  is_directory-says a_dir = gives (refl, refl)
+  is_directory-says aFile = stops
+  is_directory-says a_link = stops
 
   -- 10: a file is needed
-  pub onlyFile-quiet : (k : Kind) → Quiet (only_file k) w
+  pub only_file-quiet : (k : Kind) → Quiet (only_file k) w
   unfolding only_file
-  onlyFile-quiet aFile = gives (refl, tt)
-  onlyFile-quiet a_dir = stops
-  onlyFile-quiet a_link = stops
+  only_file-quiet aFile = gives (refl, tt)
+  only_file-quiet a_dir = stops
+  only_file-quiet a_link = stops
 
   -- 10: a directory is needed
-  pub onlyDir-quiet : (k : Kind) → Quiet (only_dir k) w
+  pub only_dir-quiet : (k : Kind) → Quiet (only_dir k) w
   unfolding only_dir
-  onlyDir-quiet a_dir = gives (refl, tt)
-  onlyDir-quiet aFile = stops
-  onlyDir-quiet a_link = stops
+  only_dir-quiet a_dir = gives (refl, tt)
+  only_dir-quiet aFile = stops
+  only_dir-quiet a_link = stops
 
   -- 9: no file may stand there
-  pub notFile-quiet : (o : Option Kind) → Quiet (not_file o) w
+  pub not_file-quiet : (o : Option Kind) → Quiet (not_file o) w
   unfolding not_file
-  notFile-quiet none = gives (refl, tt)
-  notFile-quiet (some k) = weaken (isDirectory-says k) (λ a v h. (h.0, tt))
+  not_file-quiet none = gives (refl, tt)
+  not_file-quiet (some k) = weaken (is_directory-says k) (λ a v h. (h.0, tt))
 
   -- 12: no directory may stand there
-  pub notDir-says : (o : Option Kind) → Says (λ _. o ≡ some a_dir → ⊥) (not_dir o) w
+  pub not_dir-says : (o : Option Kind) → Says (λ _. o ≡ some a_dir → ⊥) (not_dir o) w
   unfolding not_dir is_dir
-  notDir-says none = gives (refl, λ e. clash none a_dir refl e)
-  notDir-says (some a_dir) = weaken (need-says false 12 w) (λ a v h. absurd h.1)
-  notDir-says (some aFile) = weaken (need-says true 12 w) (λ a v h. (h.0, λ e. let z : ◌≡◌ {A = ℕ} 0 1 = cc in omega arith))
-  notDir-says (some a_link) = weaken (need-says true 12 w) (λ a v h. (h.0, λ e. let z : ◌≡◌ {A = ℕ} 0 1 = cc in omega arith))
+  not_dir-says none = gives (refl, λ e. clash none a_dir refl e)
+  not_dir-says (some a_dir) = weaken (need-says false 12 w) (λ a v h. absurd h.1)
+  not_dir-says (some aFile) = weaken (need-says true 12 w) (λ a v h. (h.0, λ e. let z : ◌≡◌ {A = ℕ} 0 1 = cc in omega arith))
+  not_dir-says (some a_link) = weaken (need-says true 12 w) (λ a v h. (h.0, λ e. let z : ◌≡◌ {A = ℕ} 0 1 = cc in omega arith))
 
   -- a test
   pub need-quiet : (b : Bool) (n : ℕ) → Quiet (need b n) w
@@ -129,9 +129,9 @@ module _ (w : World) where
   replaces-quiet k p (some e) = then (need-says (same_sort (is_dir k) (is_dir e)) 10 w) λ _ _. emptied-quiet (is_dir k) p
 
   -- something stands where the directory must be
-  pub parentStands-says : (p : Path) → Says (λ _. (k : Kind) × (kind_at w.at (drop_last p) ≡ some k)) (parent_stands p) w
+  pub parent_stands-says : (p : Path) → Says (λ _. (k : Kind) × (kind_at w.at (drop_last p) ≡ some k)) (parent_stands p) w
   unfolding parent_stands answer
-  parentStands-says p = then (asks-says (kind? (drop_last p)) w) λ o e. then (must-says o w) λ k h. gives (refl, (k, e ∙ h))
+  parent_stands-says p = then (asks-says (kind? (drop_last p)) w) λ o e. then (must-says o w) λ k h. gives (refl, (k, e ∙ h))
 
 -- ---- paths
 
@@ -160,23 +160,23 @@ pub record Entered (t : Entries) (a : Where) : Type 0 where
 
 module _ (w : World) (s : Sound w) where
   -- a given path, screened, made absolute
-  pub toAbsolute-says : (g : Bytes) → T (target_ok g) → Says (λ p. T (path_ok p)) (to_absolute g) w
+  pub to_absolute-says : (g : Bytes) → T (target_ok g) → Says (λ p. T (path_ok p)) (to_absolute g) w
   unfolding to_absolute answer ◌>>◌
-  toAbsolute-says g t =
+  to_absolute-says g t =
       then (asks-says here? w) λ h e.
       then (need-says (path_fits (absolute h g)) 6 w) λ _ f.
       gives (refl, path_both (absolute h g) (absolute-names h g (path_names h (subst (λ (q : Path). T (path_ok q)) e s.current)) (target-text g t) (target-lengths g t)) f)
 
   -- then the operation at that path
-  pub onPath-fine : (g : Bytes) (f : Path → Prog Reply) → T (target_ok g) → ((p : Path) → T (path_ok p) → Fine (f p) w) → Fine (on_path g f) w
+  pub on_path-fine : (g : Bytes) (f : Path → Prog Reply) → T (target_ok g) → ((p : Path) → T (path_ok p) → Fine (f p) w) → Fine (on_path g f) w
   unfolding on_path
-  onPath-fine g f t k = then (toAbsolute-says g t) λ p ok. k p ok
+  on_path-fine g f t k = then (to_absolute-says g t) λ p ok. k p ok
 
   -- or at two
-  pub onPaths-fine : (g d : Bytes) (f : Path → Path → Prog Reply) → T (target_ok g) → T (target_ok d)
+  pub on_paths-fine : (g d : Bytes) (f : Path → Path → Prog Reply) → T (target_ok g) → T (target_ok d)
       → ((p q : Path) → T (path_ok p) → T (path_ok q) → Fine (f p q) w) → Fine (on_paths g d f) w
   unfolding on_paths
-  onPaths-fine g d f t u k = then (toAbsolute-says g t) λ p pk. then (toAbsolute-says d u) λ q qk. k p q pk qk
+  on_paths-fine g d f t u k = then (to_absolute-says g t) λ p pk. then (to_absolute-says d u) λ q qk. k p q pk qk
 
   -- what a lookup from a path that a state may keep says
   pub found-says : (b : ℕ) (p : Path) → T (path_ok p) → Says (λ a. Stands w.at a.path a.kind) (lookup b p) w
@@ -195,13 +195,13 @@ module _ (w : World) (s : Sound w) where
   unfolding directory ◌>>◌
   directory-says b p ok =
       then (leads-says b p) λ e h.
-      then (isDirectory-says w e.kind) λ _ z.
+      then (is_directory-says w e.kind) λ _ z.
       gives (refl, (dir-seen w.at e.path ((h ok).kind ∙ ap some z), (h ok).path))
 
   -- the entry of a last name
-  pub lastEntry-says : (b : ℕ) (p : Path) → T (path_ok p) → Says (Entered w.at) (last_entry b p) w
+  pub last_entry-says : (b : ℕ) (p : Path) → T (path_ok p) → Says (Entered w.at) (last_entry b p) w
   unfolding last_entry answer
-  lastEntry-says b p ok =
+  last_entry-says b p ok =
       then (parted-says w p ok) λ l e.
       then (directory-says b l.before e.before) λ d h.
       then (asks-says (kind? (d.path ++ (l.name ∷ []))) w) λ k z.
@@ -214,15 +214,15 @@ module _ (w : World) (s : Sound w) where
       gives (refl, u)
 
   -- the mode of a new file fits
-  pub newMode-says : (o : Option ℕ) → ((m : ℕ) → o ≡ some m → Unsigned32 m) → Says Unsigned32 (new_mode o) w
+  pub new_mode-says : (o : Option ℕ) → ((m : ℕ) → o ≡ some m → Unsigned32 m) → Says Unsigned32 (new_mode o) w
   unfolding new_mode answer
-  newMode-says none k = asked (gives (refl, s.umask))
-  newMode-says (some m) k = gives (refl, k m refl)
+  new_mode-says none k = asked (gives (refl, s.umask))
+  new_mode-says (some m) k = gives (refl, k m refl)
 
   -- open's walk ends below the root
-  pub openWalk-says : (b : ℕ) (p : Path) → T (path_ok p) → Says (λ a. Stands w.at a.path a.kind × (a.path ≡ [] → ⊥)) (open_walk b p) w
+  pub open_walk-says : (b : ℕ) (p : Path) → T (path_ok p) → Says (λ a. Stands w.at a.path a.kind × (a.path ≡ [] → ⊥)) (open_walk b p) w
   unfolding open_walk
-  openWalk-says b p ok =
+  open_walk-says b p ok =
       then (found-says b p ok) λ a h.
       then (parted-says w a.path h.path) λ l e.
       gives (refl, (h, λ z. snoc-root l.before l.name (e.all ∙ z)))

@@ -24,9 +24,9 @@ use Rattle.model.proofs.Entries.{of_true, clash, some_inj}
 use Rattle.model.proofs.Running.{After}
 use Rattle.model.proofs.Sound.Worlds.{Sound, GivenOk}
 use Rattle.model.proofs.Sound.Paths.{target_both}
-use Rattle.model.proofs.Sound.Parts.{Fine, onPath-fine, onPaths-fine}
-use Rattle.model.proofs.Sound.Operations.{Small, onGiven-fine, canonicalize-fine, copy-fine, createDir-fine, hardLink-fine, link-fine, list-fine, metadata-fine, open-fine, read-fine, readLink-fine, remove-fine, setCurrentDir-fine, setPermissions-fine, setTimes-fine, symlinkMetadata-fine, write-fine}
-use Rattle.model.proofs.Sound.Numbers.{closeNumber-fine, metadataNumber-fine, readNumber-fine, aDirOut-fine, aFileOut-fine, aTreeOut-fine, seekNumber-fine, setLength-fine, setMode-fine, setTimesNumber-fine, set_umask-fine}
+use Rattle.model.proofs.Sound.Parts.{Fine, on_path-fine, on_paths-fine}
+use Rattle.model.proofs.Sound.Operations.{Small, on_given-fine, canonicalize-fine, copy-fine, create_dir-fine, hard_link-fine, link-fine, list-fine, metadata-fine, open-fine, read-fine, read_link-fine, remove-fine, set_current_dir-fine, set_permissions-fine, set_times-fine, symlink_metadata-fine, write-fine}
+use Rattle.model.proofs.Sound.Numbers.{close_number-fine, metadata_number-fine, read_number-fine, a_dir_out-fine, a_file_out-fine, a_tree_out-fine, seek_number-fine, set_length-fine, set_mode-fine, set_times_number-fine, set_umask-fine}
 use Rattle.model.proofs.Sound.Rename.{rename-fine}
 use Rattle.model.proofs.Sound.Settled.{world-sound, settle-obeys, files-small}
 use Rattle.model.proofs.Sound.Meets.{sound-run}
@@ -123,35 +123,35 @@ module _ (b : ℕ) (w : World) (s : Sound w) (m : Small w.files) where
   -- the program of a call that passed the screen
   program-fine : (o : Op) → OpFits o → Screened (given_to o) w.opens → Fine (program b o) w
   unfolding program given_to
-  program-fine (Calls.canonicalize g k) p c = onGiven-fine w s b g _ c.texts.0 λ q _. canonicalize-fine w s b k q
-  program-fine (Calls.set_current_dir g) p c = onGiven-fine w s b g _ c.texts.0 λ q ok. setCurrentDir-fine w s b q ok
+  program-fine (Calls.canonicalize g k) p c = on_given-fine w s b g _ c.texts.0 λ q _. canonicalize-fine w s b k q
+  program-fine (Calls.set_current_dir g) p c = on_given-fine w s b g _ c.texts.0 λ q ok. set_current_dir-fine w s b q ok
   program-fine (Calls.set_umask k) p c = set_umask-fine w k p
-  program-fine (Calls.create_dir g t) p c = onPath-fine w s g _ c.texts.0 λ q ok. createDir-fine w s b t q p ok
+  program-fine (Calls.create_dir g t) p c = on_path-fine w s g _ c.texts.0 λ q ok. create_dir-fine w s b t q p ok
   program-fine (Calls.open_file n g f k t) p c =
-      onPath-fine w s g _ c.texts.0 λ q ok. open-fine w s b m (opening_of f k) n t q (mode_if (bit f 16) k p.2) p.3 c.number.0 c.number.1 ok
-  program-fine (Calls.read_file g k) p c = onPath-fine w s g _ c.texts.0 λ q ok. read-fine w s b k q ok
-  program-fine (Calls.write_file g d t) p c = onPath-fine w s g _ c.texts.0 λ q ok. write-fine w s b t p.1 d q p.0 ok
-  program-fine (Calls.copy_file g d t) p c = onPaths-fine w s g d _ c.texts.0 c.texts.1.0 λ q r qk rk. copy-fine w s b t p q r qk rk
-  program-fine (Calls.hard_link g d t) p c = onPaths-fine w s g d _ c.texts.0 c.texts.1.0 λ q r qk rk. hardLink-fine w s b t p q r rk
-  program-fine (Calls.link_file g d t) p c = onPath-fine w s d _ c.texts.1.0 λ q ok. link-fine w s b g t q c.texts.0 p ok
-  program-fine (Calls.remove_file g) p c = onPath-fine w s g _ c.texts.0 λ q ok. remove-fine w s b a_file_out q ok (aFileOut-fine w)
-  program-fine (Calls.remove_dir g) p c = onPath-fine w s g _ c.texts.0 λ q ok. remove-fine w s b a_dir_out q ok (aDirOut-fine w)
-  program-fine (Calls.remove_tree g) p c = onPath-fine w s g _ c.texts.0 λ q ok. remove-fine w s b a_tree_out q ok (aTreeOut-fine w)
-  program-fine (Calls.rename g d t) p c = onPaths-fine w s g d _ c.texts.0 c.texts.1.0 λ q r qk rk. rename-fine w s b t p q r qk rk
-  program-fine (Calls.metadata g k) p c = onPath-fine w s g _ c.texts.0 λ q ok. metadata-fine w s b k q
-  program-fine (Calls.symlink_metadata g k) p c = onPath-fine w s g _ c.texts.0 λ q ok. symlinkMetadata-fine w s b k q
-  program-fine (Calls.read_link g k) p c = onPath-fine w s g _ c.texts.0 λ q ok. readLink-fine w s b k q
-  program-fine (Calls.set_permissions g k) p c = onPath-fine w s g _ c.texts.0 λ q ok. setPermissions-fine w s b k q p
-  program-fine (Calls.set_times g a t) p c = setTimes-fine w s b g a t p.0 p.1
-  program-fine (Calls.list g k r) p c = onPath-fine w s g _ c.texts.0 λ q ok. list-fine w s b k r q
-  program-fine (Calls.close_number n) p c = closeNumber-fine w n
-  program-fine (Calls.read_number n k) p c = readNumber-fine w n s m k
-  program-fine (Calls.seek_number n o k) p c = seekNumber-fine w n o k p.2
-  program-fine (Calls.set_length n k) p c = setLength-fine w n s k
-  program-fine (Calls.set_mode_number n k) p c = setMode-fine w n k p.1
+      on_path-fine w s g _ c.texts.0 λ q ok. open-fine w s b m (opening_of f k) n t q (mode_if (bit f 16) k p.2) p.3 c.number.0 c.number.1 ok
+  program-fine (Calls.read_file g k) p c = on_path-fine w s g _ c.texts.0 λ q ok. read-fine w s b k q ok
+  program-fine (Calls.write_file g d t) p c = on_path-fine w s g _ c.texts.0 λ q ok. write-fine w s b t p.1 d q p.0 ok
+  program-fine (Calls.copy_file g d t) p c = on_paths-fine w s g d _ c.texts.0 c.texts.1.0 λ q r qk rk. copy-fine w s b t p q r qk rk
+  program-fine (Calls.hard_link g d t) p c = on_paths-fine w s g d _ c.texts.0 c.texts.1.0 λ q r qk rk. hard_link-fine w s b t p q r rk
+  program-fine (Calls.link_file g d t) p c = on_path-fine w s d _ c.texts.1.0 λ q ok. link-fine w s b g t q c.texts.0 p ok
+  program-fine (Calls.remove_file g) p c = on_path-fine w s g _ c.texts.0 λ q ok. remove-fine w s b a_file_out q ok (a_file_out-fine w)
+  program-fine (Calls.remove_dir g) p c = on_path-fine w s g _ c.texts.0 λ q ok. remove-fine w s b a_dir_out q ok (a_dir_out-fine w)
+  program-fine (Calls.remove_tree g) p c = on_path-fine w s g _ c.texts.0 λ q ok. remove-fine w s b a_tree_out q ok (a_tree_out-fine w)
+  program-fine (Calls.rename g d t) p c = on_paths-fine w s g d _ c.texts.0 c.texts.1.0 λ q r qk rk. rename-fine w s b t p q r qk rk
+  program-fine (Calls.metadata g k) p c = on_path-fine w s g _ c.texts.0 λ q ok. metadata-fine w s b k q
+  program-fine (Calls.symlink_metadata g k) p c = on_path-fine w s g _ c.texts.0 λ q ok. symlink_metadata-fine w s b k q
+  program-fine (Calls.read_link g k) p c = on_path-fine w s g _ c.texts.0 λ q ok. read_link-fine w s b k q
+  program-fine (Calls.set_permissions g k) p c = on_path-fine w s g _ c.texts.0 λ q ok. set_permissions-fine w s b k q p
+  program-fine (Calls.set_times g a t) p c = set_times-fine w s b g a t p.0 p.1
+  program-fine (Calls.list g k r) p c = on_path-fine w s g _ c.texts.0 λ q ok. list-fine w s b k r q
+  program-fine (Calls.close_number n) p c = close_number-fine w n
+  program-fine (Calls.read_number n k) p c = read_number-fine w n s m k
+  program-fine (Calls.seek_number n o k) p c = seek_number-fine w n o k p.2
+  program-fine (Calls.set_length n k) p c = set_length-fine w n s k
+  program-fine (Calls.set_mode_number n k) p c = set_mode-fine w n k p.1
   program-fine (Calls.set_times_number n f a t) p c =
-      setTimesNumber-fine w n (given_if (bit f 1) a) (given_if (bit f 2) t) (given-if (bit f 1) a p.2) (given-if (bit f 2) t p.3)
-  program-fine (Calls.metadata_number n k) p c = metadataNumber-fine w n s b k
+      set_times_number-fine w n (given_if (bit f 1) a) (given_if (bit f 2) t) (given-if (bit f 1) a p.2) (given-if (bit f 2) t p.3)
+  program-fine (Calls.metadata_number n k) p c = metadata_number-fine w n s b k
 
 -- ---- calls and jobs
 

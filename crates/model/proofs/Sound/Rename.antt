@@ -18,7 +18,7 @@ use Rattle.model.proofs.Sound.Entries.{cut_some, snoc-root, names_both}
 use Rattle.model.proofs.Sound.Edits.{sound-edit}
 use Rattle.model.proofs.Sound.Paths.{path_names}
 use Rattle.model.proofs.Sound.Lookups.{lookup-says}
-use Rattle.model.proofs.Sound.Parts.{Fine, dir-ok, below-dir, need-quiet, replaces-quiet, Parts, parted-says, found-says, leads-says, lastEntry-says, made}
+use Rattle.model.proofs.Sound.Parts.{Fine, dir-ok, below-dir, need-quiet, replaces-quiet, Parts, parted-says, found-says, leads-says, last_entry-says, made}
 use Rattle.model.proofs.Lookups.Lands.{Barred, lands}
 use Rattle.model.proofs.Sound.Meets.{gives, edited, then, bind, also, told}
 
@@ -30,9 +30,9 @@ no_other o l f a_link e = absurd (l e)
 
 module _ (w : World) (s : Sound w) (b : ℕ) (t : Time) (tk : Signed64 t) where
   -- q is the new path, whose walk gave a
-  takeThenMake-fine : (old q : Path) (m : Parted) → Parts q m → (a : Where) → run (lookup b q) w ≡ done a w → Fine (take_then_make b old m t) w
+  take_then_make-fine : (old q : Path) (m : Parted) → Parts q m → (a : Where) → run (lookup b q) w ≡ done a w → Fine (take_then_make b old m t) w
   unfolding take_then_make apply ◌>>◌ ◌>>=◌
-  takeThenMake-fine old q m e a r =
+  take_then_make-fine old q m e a r =
       edited {e = take old} tt
       (then (also (found-says v u b m.before e.before) (lands v w sees m.name b m.before)) λ c z.
       bind (made (fresh_dir t) c.path v (dir-ok t tk) c.kind z.0) λ _ o i.
@@ -55,17 +55,17 @@ module _ (w : World) (s : Sound w) (b : ℕ) (t : Time) (tk : Signed64 t) where
       barred : Barred (run (lookup b (m.before ++ (m.name ∷ []))) w) → ⊥
       barred h = subst Barred (ap (λ (k : Path). run (lookup b k) w) e.all ∙ r) h
 
-  renameApart-fine : (p q : Path) → T (path_ok p) → T (path_ok q) → Fine (rename_apart b t p q) w
+  rename_apart-fine : (p q : Path) → T (path_ok p) → T (path_ok q) → Fine (rename_apart b t p q) w
   unfolding rename_apart ◌>>◌
-  renameApart-fine p q pk qk =
+  rename_apart-fine p q pk qk =
       then (parted-says w p pk) λ _ _.
       then (parted-says w q qk) λ m f.
       then (leads-says w s b p) λ c _.
       then (need-quiet w (not (is_dir c.kind && is_some (behind p q))) 11) λ _ _.
       then (told (lookup-says w s b q)) λ a z.
       then (replaces-quiet w c.kind a.path a.kind) λ _ _.
-      then (lastEntry-says w s b p pk) λ o _.
-      bind (takeThenMake-fine o.path q m f a z.1) λ _ _ _.
+      then (last_entry-says w s b p pk) λ o _.
+      bind (take_then_make-fine o.path q m f a z.1) λ _ _ _.
       gives tt
 
   -- rename's edits: the old entry is out, directories are made, and the entry is put below one
@@ -75,4 +75,4 @@ module _ (w : World) (s : Sound w) (b : ℕ) (t : Time) (tk : Signed64 t) where
     where
       go : (c : Bool) → Fine (rename_by c b t p q) w
       go true = gives tt
-      go false = renameApart-fine p q pk qk
+      go false = rename_apart-fine p q pk qk

@@ -56,15 +56,15 @@ module _ (t : Entries) (os : List Open) where
           ih ∙ ap (λ (c : Bool). if_so c (file_of fs i)) (here false x (of_true y)) ∙ sym (ap (λ (c : Bool). if_so c (some f.1)) (here false x (of_true y)))
       go false x false y ih = ih
 
-  pub kept-some : (fs : Files) (i : ℕ) (f : File) → file_of (kept_files t os fs) i ≡ some f → T (Wanted t os i) × (file_of fs i ≡ some f)
-  kept-some fs i f e = go (Wanted t os i) (sym (kept-file fs i) ∙ e)
+  pub kept_some : (fs : Files) (i : ℕ) (f : File) → file_of (kept_files t os fs) i ≡ some f → T (Wanted t os i) × (file_of fs i ≡ some f)
+  kept_some fs i f e = go (Wanted t os i) (sym (kept-file fs i) ∙ e)
     where
       go : (b : Bool) → if_so b (file_of fs i) ≡ some f → T b × (file_of fs i ≡ some f)
       go true e = (tt, e)
       go false e = clash none f refl e
 
-  kept-has : (fs : Files) (i : ℕ) → T (Wanted t os i) → HasFile fs i → HasFile (kept_files t os fs) i
-  kept-has fs i h (f, e) = (f, kept-file fs i ∙ ap (λ (c : Bool). if_so c (file_of fs i)) (is_true (Wanted t os i) h) ∙ e)
+  kept_has : (fs : Files) (i : ℕ) → T (Wanted t os i) → HasFile fs i → HasFile (kept_files t os fs) i
+  kept_has fs i h (f, e) = (f, kept-file fs i ∙ ap (λ (c : Bool). if_so c (file_of fs i)) (is_true (Wanted t os i) h) ∙ e)
 
 -- ---- between states and worlds
 
@@ -94,33 +94,33 @@ state-obeys s w o u e b = record {
   named = u.tree.named;
   nodes = λ p n h. node p n h (u.tree.nodes p n h);
   files = kept-once w.at w.opens w.files u.table.once;
-  each_file = λ i f h. u.table.each i f (kept-some w.at w.opens w.files i f h).1;
+  each_file = λ i f h. u.table.each i f (kept_some w.at w.opens w.files i f h).1;
   one_name = u.tree.one_name;
-  used = λ i f h. (kept-some w.at w.opens w.files i f h).0;
+  used = λ i f h. (kept_some w.at w.opens w.files i f h).0;
   numbers = u.numbers.once;
   opens = λ n k h.
       let v = u.numbers.each n k h in
-      (v.small, v.place, v.path, kept-has w.at w.opens w.files k.id (or_right (is_named w.at k.id) (is_held w.opens k.id) (by_held w.opens n k h)) v.stands);
+      (v.small, v.place, v.path, kept_has w.at w.opens w.files k.id (or_right (is_named w.at k.id) (is_held w.opens k.id) (by_held w.opens n k h)) v.stands);
   current = u.current;
   umask = u.umask;
 }
   where
     node : (p : Path) (n : Node) → look w.at p ≡ some n → NodeOk w.files n → NodeOk (kept_files w.at w.opens w.files) n
     node p (dir m) h k = k
-    node p (file i) h k = kept-has w.at w.opens w.files i (or_left (is_named w.at i) (is_held w.opens i) (at_named w.at p i h)) k
+    node p (file i) h k = kept_has w.at w.opens w.files i (or_left (is_named w.at i) (is_held w.opens i) (at_named w.at p i h)) k
     node p (link m g) h k = k
 
 -- before it is tested against them
 pub sound-shaped : (s : State) (w : World) → Sound w → Shaped (state_of s w)
 sound-shaped s w u = record {
   paths = u.tree.paths;
-  nodes = λ p i h. kept-has w.at w.opens w.files i (or_left (is_named w.at i) (is_held w.opens i) (at_named w.at p i h)) (u.tree.nodes p (file i) h);
+  nodes = λ p i h. kept_has w.at w.opens w.files i (or_left (is_named w.at i) (is_held w.opens i) (at_named w.at p i h)) (u.tree.nodes p (file i) h);
   one_name = u.tree.one_name;
   files = kept-once w.at w.opens w.files u.table.once;
-  used = λ i f h. (kept-some w.at w.opens w.files i f h).0;
+  used = λ i f h. (kept_some w.at w.opens w.files i f h).0;
   numbers = u.numbers.once;
   stands = λ n k h.
-      kept-has w.at w.opens w.files k.id (or_right (is_named w.at k.id) (is_held w.opens k.id) (by_held w.opens n k h)) (u.numbers.each n k h).stands;
+      kept_has w.at w.opens w.files k.id (or_right (is_named w.at k.id) (is_held w.opens k.id) (by_held w.opens n k h)) (u.numbers.each n k h).stands;
 }
 
 -- what a program leaves that ends in a sound world, and what a refused one leaves

@@ -15,8 +15,8 @@ use Rattle.model.specs.Prog.{make, create, symlink, change, remove, take, give, 
 use Rattle.model.specs.Calls.{edited, State, is_named, is_held, world_of, state_of}
 use Rattle.model.specs.Space.{size_of, freed_by, freed_in}
 use Rattle.model.proofs.Space.Sums.{KeepsBytes}
-use Rattle.model.proofs.Space.Edits.{Bare, Leaf, make-new, create-new, symlink-new, symlink-link, symlink-file, write-file, resize-file, write-held, resize-held, change-keeps, held_keeps, remove-block, remove-leaf, opens-same, close-frees, seek-same, go_same, umask-same}
-use Rattle.model.proofs.Space.Steps.{move_new, move-over, move-leaf, names_length, makes, make-row, row-hand, move-made, nest}
+use Rattle.model.proofs.Space.Edits.{Bare, Leaf, make-new, create-new, symlink-new, symlink-link, symlink-file, write-file, resize-file, write-held, resize-held, change-keeps, held_keeps, remove-block, remove-leaf, opens_same, close-frees, seek_same, go_same, umask_same}
+use Rattle.model.proofs.Space.Steps.{move_new, move_over, move-leaf, names_length, makes, make-row, row-hand, move-made, nest}
 use Rattle.model.proofs.Space.States.{Spaced, Uses, shift-uses, after-uses, both_uses, uses_as}
 
 module _ (s : State) (h : Spaced s) where
@@ -86,10 +86,10 @@ module _ (s : State) (h : Spaced s) where
   after-move p q a e b = shift-uses s (apply (give q) (apply (take p) (world_of s))) h refl (move_new (world_of s) p q a refl e h.single.tidy.tree b)
 
   -- an entry moved over another with all below that
-  pub after-move-over : (p q : Path) (a n : Node) → look s.tree p ≡ some a → look (cut p s.tree) q ≡ some n
+  pub after-move_over : (p q : Path) (a n : Node) → look s.tree p ≡ some a → look (cut p s.tree) q ≡ some n
       → Uses s (state_of s (apply (give q) (apply (take p) (world_of s)))) 0 (length (under q (cut p s.tree))) 0 (name_length p + freed_in s.files s.opens (under q (cut p s.tree)))
   unfolding apply
-  after-move-over p q a n e f = shift-uses s (apply (give q) (apply (take p) (world_of s))) h refl (move-over (world_of s) p q a refl e n h.single f)
+  after-move_over p q a n e f = shift-uses s (apply (give q) (apply (take p) (world_of s))) h refl (move_over (world_of s) p q a refl e n h.single f)
 
   -- an entry moved over one with nothing below it: a file, a link, an empty directory
   pub after-move-leaf : (p q : Path) (a n : Node) → look s.tree p ≡ some a → look (cut p s.tree) q ≡ some n → Leaf q (cut p s.tree)
@@ -117,14 +117,14 @@ module _ (s : State) (h : Spaced s) where
 
   -- a number that was closed is opened
   pub after-opens : (n : ℕ) (p : Path) (k : ℕ) → open_of s.opens n ≡ none → Uses s (edited (opens n p k) s) 0 0 0 0
-  after-opens n p k e = after-uses (opens n p k) s h tt (opens-same (world_of s) n p k e)
+  after-opens n p k e = after-uses (opens n p k) s h tt (opens_same (world_of s) n p k e)
 
   -- a number opened on a new file
   pub after-open-new : (p : Path) (f : File) (n k : ℕ) → look s.tree p ≡ none → open_of s.opens n ≡ none
       → Uses s (state_of s (apply (opens n p k) (apply (create p f) (world_of s)))) 1 0 (name_length p + length f.bytes) 0
   after-open-new p f n k e z =
       uses_as
-      (both_uses (create p f) (opens n p k) s h tt tt (create-new (world_of s) p f e) (opens-same (apply (create p f) (world_of s)) n p k (unfold apply in z)))
+      (both_uses (create p f) (opens n p k) s h tt tt (create-new (world_of s) p f e) (opens_same (apply (create p f) (world_of s)) n p k (unfold apply in z)))
       (omega arith) (omega arith)
 
   -- a number opened on a file with other contents
@@ -133,7 +133,7 @@ module _ (s : State) (h : Spaced s) where
   after-open-write p b t i f n k e g z =
       uses_as
       (both_uses (change p (write b t)) (opens n p k) s h tt tt (write-file (world_of s) p b t i f h.single.tidy.files e g)
-      (opens-same (apply (change p (write b t)) (world_of s)) n p k (unfold apply in rw e z)))
+      (opens_same (apply (change p (write b t)) (world_of s)) n p k (unfold apply in rw e z)))
       (omega arith) (omega arith)
 
   -- an open number is closed: contents go where the file has no name and no other number
@@ -143,7 +143,7 @@ module _ (s : State) (h : Spaced s) where
 
   -- a position
   pub after-seek : (n k : ℕ) → Uses s (edited (seek n k) s) 0 0 0 0
-  after-seek n k = after-uses (seek n k) s h tt (seek-same (world_of s) n k)
+  after-seek n k = after-uses (seek n k) s h tt (seek_same (world_of s) n k)
 
   -- the current directory
   pub after-go : (p : Path) → Uses s (edited (go p) s) 0 0 0 0
@@ -151,4 +151,4 @@ module _ (s : State) (h : Spaced s) where
 
   -- the umask
   pub after-umask : (m : ℕ) → Uses s (edited (umask m) s) 0 0 0 0
-  after-umask m = after-uses (umask m) s h tt (umask-same (world_of s) m)
+  after-umask m = after-uses (umask m) s h tt (umask_same (world_of s) m)

@@ -24,7 +24,7 @@ use Rattle.model.proofs.Sound.Files.{new-free}
 use Rattle.model.proofs.Space.Sums.{names, count, some?, named_count, kept_same, kept-counts, kept-held, bytes_over, OneName, bytes-sum, total-freed, KeepsBytes, kept_set, kept-keeps, close-free, held-close, held-seek}
 use Rattle.model.proofs.Demand.Spacing.{total-length, total-names, last_name_lem, root-name}
 use Rattle.model.proofs.Demand.Tidy.{Tidy}
-use Rattle.model.proofs.Demand.Totals.{total, total-both, total-cut, total-less, total-graft, crown}
+use Rattle.model.proofs.Demand.Totals.{total, total_both, total-cut, total-less, total-graft, crown}
 
 -- ---- sums over a tree that is edited, with what is in hand
 
@@ -75,12 +75,12 @@ module _ (d : Path → ℕ) (c : Node → ℕ) where
   -- a node put where nothing stands
   total-new : (h t : Entries) (p : Path) (n : Node) → look t p ≡ none → total d c (h ++ put p n t) ≡ total d c (h ++ t) + (d p + c n)
   unfolding put total
-  total-new h t p n e = omega (arith, total-both d c h (put p n t), total-both d c h t, ap (total d c) (less_none p t e))
+  total-new h t p n e = omega (arith, total_both d c h (put p n t), total_both d c h t, ap (total d c) (less_none p t e))
 
   -- a node put for another
-  total-over : (h t : Entries) (p : Path) (n a : Node) → Apart t → look t p ≡ some a → total d c (h ++ put p n t) + c a ≡ total d c (h ++ t) + c n
+  total_over : (h t : Entries) (p : Path) (n a : Node) → Apart t → look t p ≡ some a → total d c (h ++ put p n t) + c a ≡ total d c (h ++ t) + c n
   unfolding put total
-  total-over h t p n a k e = omega (arith, total-both d c h (put p n t), total-both d c h t, total-less d c p a t k e)
+  total_over h t p n a k e = omega (arith, total_both d c h (put p n t), total_both d c h t, total-less d c p a t k e)
 
   module _ (unnamed : d [] ≡ 0) (last : (p : Path) (x : Name) (r : Path) → d (p ++ (x ∷ r)) ≡ d (x ∷ r)) where
     -- entries put behind a path
@@ -95,22 +95,22 @@ module _ (d : Path → ℕ) (c : Node → ℕ) where
     -- an entry removed with all below it
     total-removed : (h t : Entries) (p : Path) (a : Node) → Apart t → look t p ≡ some a
         → total d c (h ++ cut p t) + (d p + total d c (under p t)) ≡ total d c (h ++ t)
-    total-removed h t p a k e = omega (arith, total-both d c h (cut p t), total-both d c h t, total-block p t a k e)
+    total-removed h t p a k e = omega (arith, total_both d c h (cut p t), total_both d c h t, total-block p t a k e)
 
     -- taken in hand
     total-taken : (t : Entries) (p : Path) (a : Node) → Apart t → look t p ≡ some a → total d c (under p t ++ cut p t) + d p ≡ total d c t
-    total-taken t p a k e = omega (arith, total-both d c (under p t) (cut p t), total-block p t a k e)
+    total-taken t p a k e = omega (arith, total_both d c (under p t) (cut p t), total-block p t a k e)
 
     -- put down where nothing stands
     total-given : (h t : Entries) (q : Path) (a : Node) → Apart h → look h [] ≡ some a → Bare q t → total d c (graft q h ++ cut q t) ≡ total d c (h ++ t) + d q
     total-given h t q a k e b =
-        omega (arith, total-both d c (graft q h) (cut q t), total-both d c h t, total-behind q h a k e, ap (total d c) (bare-cut q t b))
+        omega (arith, total_both d c (graft q h) (cut q t), total_both d c h t, total-behind q h a k e, ap (total d c) (bare-cut q t b))
 
     -- put down for another
     total-for : (h t : Entries) (q : Path) (a n : Node) → Apart h → look h [] ≡ some a → Apart t → look t q ≡ some n
         → total d c (graft q h ++ cut q t) + total d c (under q t) ≡ total d c (h ++ t)
     total-for h t q a n k e l f =
-        omega (arith, total-both d c (graft q h) (cut q t), total-both d c h t, total-behind q h a k e, total-block q t n l f)
+        omega (arith, total_both d c (graft q h) (cut q t), total_both d c h t, total-behind q h a k e, total-block q t n l f)
 
 -- a file of the tree is named, whatever is in hand
 pub named-tree : (h t : Entries) (p : Path) (i : ℕ) → look t p ≡ some (file i) → T (is_named (h ++ t) i)
@@ -227,10 +227,10 @@ module _ (w : World) (p : Path) where
   put_same : (n a : Node) → ((i : ℕ) → names i n ≡ 0) → ((i : ℕ) → names i a ≡ 0) → Apart w.at → look w.at p ≡ some a
       → Shift w (with_tree w (put p n w.at)) 0 0 (target_length n) (target_length a)
   put_same n a z y k e = record {
-    entries = lengths (whole w) (w.hand ++ put p n w.at) 0 0 (omega (arith, total-over (λ p. 0) (λ n. 1) w.hand w.at p n a k e));
+    entries = lengths (whole w) (w.hand ++ put p n w.at) 0 0 (omega (arith, total_over (λ p. 0) (λ n. 1) w.hand w.at p n a k e));
     bytes = same_files (whole w) (w.hand ++ put p n w.at) w.opens w.files (target_length a) (target_length n)
-        (λ i. omega (arith, total-over (λ p. 0) (names i) w.hand w.at p n a k e, z i, y i))
-        (total-over name_length target_length w.hand w.at p n a k e);
+        (λ i. omega (arith, total_over (λ p. 0) (names i) w.hand w.at p n a k e, z i, y i))
+        (total_over name_length target_length w.hand w.at p n a k e);
   }
 
   -- a link for a link: the target for the target
@@ -243,11 +243,11 @@ module _ (w : World) (p : Path) where
       → Shift w (apply (symlink p m s) w) 0 0 (length s) (freed_by w.files w.opens (file i))
   unfolding apply names freed_by
   symlink-file m s i h e = record {
-    entries = lengths (whole w) (w.hand ++ put p (link m s) w.at) 0 0 (omega (arith, total-over (λ p. 0) (λ n. 1) w.hand w.at p (link m s) (file i) h.tidy.tree e));
+    entries = lengths (whole w) (w.hand ++ put p (link m s) w.at) 0 0 (omega (arith, total_over (λ p. 0) (λ n. 1) w.hand w.at p (link m s) (file i) h.tidy.tree e));
     bytes = less-files (whole w) (w.hand ++ put p (link m s) w.at) w.opens w.files (freed_by w.files w.opens (file i)) (length s)
         h.tidy.files h.one_name
-        (λ j. omega (arith, h.one_name j, total-over (λ p. 0) (names j) w.hand w.at p (link m s) (file i) h.tidy.tree e))
-        (total-over name_length (freed_by w.files w.opens) w.hand w.at p (link m s) (file i) h.tidy.tree e);
+        (λ j. omega (arith, h.one_name j, total_over (λ p. 0) (names j) w.hand w.at p (link m s) (file i) h.tidy.tree e))
+        (total_over name_length (freed_by w.files w.opens) w.hand w.at p (link m s) (file i) h.tidy.tree e);
   }
 
 -- ---- changes
@@ -403,10 +403,10 @@ module _ (w : World) where
   }
 
   -- put down for what stands there: its name is the name of what goes
-  pub give-over : (q : Path) (a n : Node) → Single w → look w.hand [] ≡ some a → look w.at q ≡ some n
+  pub give_over : (q : Path) (a n : Node) → Single w → look w.hand [] ≡ some a → look w.at q ≡ some n
       → Shift w (apply (give q) w) 0 (length (under q w.at)) 0 (freed_in w.files w.opens (under q w.at))
   unfolding apply
-  give-over q a n s e f = record {
+  give_over q a n s e f = record {
     entries = omega (
       arith,
       total-length (graft q w.hand ++ cut q w.at),
@@ -430,15 +430,15 @@ module _ (w : World) where
   unfolding freed_in
   give-leaf q a n s e f l =
       let z : under q w.at ≡ ([], n) ∷ [] = leaf_under q n w.at s.tidy.tree f l in
-      shift_as (give-over q a n s e f) (omega (arith, ap length z)) (omega (arith, root-name, ap (freed_in w.files w.opens) z))
+      shift_as (give_over q a n s e f) (omega (arith, ap length z)) (omega (arith, root-name, ap (freed_in w.files w.opens) z))
 
 -- ---- numbers, the current directory, the umask
 
 module _ (w : World) where
   -- a number that was closed is opened
-  pub opens-same : (n : ℕ) (p : Path) (k : ℕ) → open_of w.opens n ≡ none → Shift w (apply (opens n p k) w) 0 0 0 0
+  pub opens_same : (n : ℕ) (p : Path) (k : ℕ) → open_of w.opens n ≡ none → Shift w (apply (opens n p k) w) 0 0 0 0
   unfolding apply is_held
-  opens-same n p k z = at (look w.at p) refl
+  opens_same n p k z = at (look w.at p) refl
     where
       open-file : (i : ℕ) → look w.at p ≡ some (file i) → (j : ℕ) → is_named (whole w) j || (eqb i j || is_held (close_num n w.opens) j) ≡ is_named (whole w) j || is_held w.opens j
       open-file i e j = rw (close-free n w.opens z) (go (eqb i j) refl)
@@ -468,9 +468,9 @@ module _ (w : World) where
   }
 
   -- a number at another position
-  pub seek-same : (n k : ℕ) → Shift w (apply (seek n k) w) 0 0 0 0
+  pub seek_same : (n k : ℕ) → Shift w (apply (seek n k) w) 0 0 0 0
   unfolding apply
-  seek-same n k = record {
+  seek_same n k = record {
     entries = refl;
     bytes = ap (λ (fs : Files). (names_and_targets (whole w) + contents_length fs) + 0)
         (kept_same (whole w) (whole w) (seek_num n k w.opens) w.opens w.files (λ j _. ap (λ (b : Bool). is_named (whole w) j || b) (held-seek n k w.opens j)));
@@ -482,6 +482,6 @@ module _ (w : World) where
   go_same p = record { entries = refl; bytes = refl }
 
   -- another umask
-  pub umask-same : (m : ℕ) → Shift w (apply (umask m) w) 0 0 0 0
+  pub umask_same : (m : ℕ) → Shift w (apply (umask m) w) 0 0 0 0
   unfolding apply
-  umask-same m = record { entries = refl; bytes = refl }
+  umask_same m = record { entries = refl; bytes = refl }

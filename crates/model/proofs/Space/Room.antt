@@ -80,10 +80,10 @@ room_fits s u more grown freed e x p q =
     (omega (arith, z.0, x.entries), omega (arith, z.1, x.bytes))
 
 -- two states that use the same within the same limits have the same room
-pub room_same : (s u : State) (more grown freed : ℕ) → entries_used s ≡ entries_used u → bytes_used s ≡ bytes_used u → s.most ≡ u.most → s.room ≡ u.room
+pub room_same_lem : (s u : State) (more grown freed : ℕ) → entries_used s ≡ entries_used u → bytes_used s ≡ bytes_used u → s.most ≡ u.most → s.room ≡ u.room
     → room_for s more grown freed ≡ room_for u more grown freed
 unfolding room_for
-room_same s u more grown freed e b m r = rw (e, b, m, r)
+room_same_lem s u more grown freed e b m r = rw (e, b, m, r)
 
 -- where nothing is gained, a state within its limits is left within them
 pub room-given : (s : State) (freed : ℕ) → entries_used s ≤ s.most → bytes_used s ≤ s.room → room_for s 0 0 freed ≡ 0

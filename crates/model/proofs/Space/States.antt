@@ -18,11 +18,11 @@ use Rattle.model.proofs.Demand.Contents.{or_left}
 use Rattle.model.proofs.Entries.{of_true, Apart}
 use Rattle.model.proofs.Demand.Keeping.{kept-file, kept-once, kept_all}
 use Rattle.model.specs.Shaped.{HasFile}
-use Rattle.model.proofs.Sound.Settled.{kept-some}
+use Rattle.model.proofs.Sound.Settled.{kept_some}
 use Rattle.model.proofs.Space.Sums.{names, count, none_counted, bytes_over}
 use Rattle.model.proofs.Space.Edits.{entries_in, bytes_in, Shift, shift_then, Single}
 use Rattle.model.proofs.Space.Steps.{single-edit, state-single}
-use Rattle.model.proofs.Demand.Totals.{total-both}
+use Rattle.model.proofs.Demand.Totals.{total_both}
 
 -- ---- states
 
@@ -47,17 +47,17 @@ pub left_spaced : (s : State) (w : World) → Single w → Spaced (state_of s w)
 left_spaced s w u = record {
   single = record {
     tidy = record { tree = u.tidy.tree; hand = tt; files = kept-once w.at w.opens w.files u.tidy.files; numbers = u.tidy.numbers };
-    one_name = λ i. omega (arith, u.one_name i, total-both (λ p. 0) (names i) w.hand w.at);
+    one_name = λ i. omega (arith, u.one_name i, total_both (λ p. 0) (names i) w.hand w.at);
     present = λ i e. at i e (is_named w.at i) refl;
   };
-  used = λ i f e. (kept-some w.at w.opens w.files i f e).0;
+  used = λ i f e. (kept_some w.at w.opens w.files i f e).0;
 }
   where
     at : (i : ℕ) → file_of (kept_files w.at w.opens w.files) i ≡ none → (b : Bool) → is_named w.at i ≡ b → count i w.at ≡ 0
     at i e false k = none_counted i w.at k
     at i e true k =
         let f : file_of w.files i ≡ none = sym (kept-file w.at w.opens w.files i (or_left (is_named w.at i) (is_held w.opens i) (of_true k))) ∙ e in
-        omega (arith, u.present i f, total-both (λ p. 0) (names i) w.hand w.at)
+        omega (arith, u.present i f, total_both (λ p. 0) (names i) w.hand w.at)
 
 -- ---- used before and edited
 

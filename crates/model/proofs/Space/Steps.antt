@@ -25,10 +25,10 @@ use Rattle.model.proofs.Sound.Worlds.{IsDir, Sound}
 use Rattle.model.proofs.Sound.Entries.{behind-snoc, cut_some}
 use Rattle.model.proofs.Sound.Files.{set-covers, new-free}
 use Rattle.model.proofs.Space.Sums.{names, count, named_none, none_counted, OneName}
-use Rattle.model.proofs.Space.Edits.{Bare, Leaf, named-tree, whole, Shift, shift_then, shift_as, Single, make-new, take-hand, give-new, give-over, give-leaf}
+use Rattle.model.proofs.Space.Edits.{Bare, Leaf, named-tree, whole, Shift, shift_then, shift_as, Single, make-new, take-hand, give-new, give_over, give-leaf}
 use Rattle.model.proofs.Demand.Spacing.{last_name_lem}
 use Rattle.model.proofs.Demand.Tidy.{Tidy, tidy-edit}
-use Rattle.model.proofs.Demand.Totals.{total, total-both, total-cut, less-le}
+use Rattle.model.proofs.Demand.Totals.{total, total_both, total-cut, less-le}
 
 -- ---- names counted after an edit
 
@@ -39,17 +39,17 @@ count-graft i p (e ∷ h) = omega (arith, count-graft i p h)
 
 count-put : (i : ℕ) (h t : Entries) (p : Path) (n : Node) → count i (h ++ put p n t) ≤ count i (h ++ t) + names i n
 unfolding put total
-count-put i h t p n = omega (arith, total-both (λ p. 0) (names i) h (put p n t), total-both (λ p. 0) (names i) h t, less-le (λ p. 0) (names i) p t)
+count-put i h t p n = omega (arith, total_both (λ p. 0) (names i) h (put p n t), total_both (λ p. 0) (names i) h t, less-le (λ p. 0) (names i) p t)
 
 count_cut : (i : ℕ) (h t : Entries) (p : Path) → count i (h ++ cut p t) ≤ count i (h ++ t)
-count_cut i h t p = omega (arith, total-both (λ p. 0) (names i) h (cut p t), total-both (λ p. 0) (names i) h t, total-cut (λ p. 0) (names i) p t)
+count_cut i h t p = omega (arith, total_both (λ p. 0) (names i) h (cut p t), total_both (λ p. 0) (names i) h t, total-cut (λ p. 0) (names i) p t)
 
 count-take : (i : ℕ) (h t : Entries) (p : Path) → count i (under p t ++ cut p t) ≤ count i (h ++ t)
 count-take i h t p =
     omega (
       arith,
-      total-both (λ p. 0) (names i) (under p t) (cut p t),
-      total-both (λ p. 0) (names i) h t,
+      total_both (λ p. 0) (names i) (under p t) (cut p t),
+      total_both (λ p. 0) (names i) h t,
       total-cut (λ p. 0) (names i) p t,
       count-graft i p (under p t),
     )
@@ -58,8 +58,8 @@ count-give : (i : ℕ) (h t : Entries) (p : Path) → count i (graft p h ++ cut 
 count-give i h t p =
     omega (
       arith,
-      total-both (λ p. 0) (names i) (graft p h) (cut p t),
-      total-both (λ p. 0) (names i) h t,
+      total_both (λ p. 0) (names i) (graft p h) (cut p t),
+      total_both (λ p. 0) (names i) h t,
       total-cut (λ p. 0) (names i) p t,
       count-graft i p h,
     )
@@ -186,7 +186,7 @@ sound-single w u = record {
   one_name = λ i. both i (is_named w.hand i) refl;
   present = λ i e. omega (
     arith,
-    total-both (λ p. 0) (names i) w.hand w.at,
+    total_both (λ p. 0) (names i) w.hand w.at,
     files-present w.at w.files u.tree.paths (λ p j x. u.tree.nodes p (file j) x) i e,
     files-present w.hand w.files u.in_hand.paths (λ p j x. u.in_hand.nodes p (file j) x) i e,
   );
@@ -194,11 +194,11 @@ sound-single w u = record {
   where
     both : (i : ℕ) (b : Bool) → is_named w.hand i ≡ b → count i (whole w) ≤ 1
     both i false e =
-        omega (arith, total-both (λ p. 0) (names i) w.hand w.at, none_counted i w.hand e, named-once w.at u.tree.paths u.tree.one_name i)
+        omega (arith, total_both (λ p. 0) (names i) w.hand w.at, none_counted i w.hand e, named-once w.at u.tree.paths u.tree.one_name i)
     both i true e =
         let r = named_at w.hand u.in_hand.paths i (of_true e) in
         let z : is_named w.at i ≡ false = is_false (is_named w.at i) (λ x. let q = named_at w.at u.tree.paths i x in u.apart q.0 r.0 i q.1 r.1) in
-        omega (arith, total-both (λ p. 0) (names i) w.hand w.at, none_counted i w.at z, named-once w.hand u.in_hand.paths u.in_hand.one_name i)
+        omega (arith, total_both (λ p. 0) (names i) w.hand w.at, none_counted i w.at z, named-once w.hand u.in_hand.paths u.in_hand.one_name i)
 
 -- ---- paths with nothing below them
 
@@ -221,8 +221,8 @@ module _ (t : Entries) (h : Parents t) where
   leaf-names q e x r = ap (look t) (sym (append_assoc q (x ∷ []) r)) ∙ bare-missing (q ++ (x ∷ [])) (e x) r
 
   -- below a file or a link is nothing
-  pub leaf-other : (q : Path) (n : Node) → look t q ≡ some n → ((m : Meta) → n ≡ dir m → ⊥) → Leaf q t
-  leaf-other q n e z = leaf-names q (λ x. at x (look t (q ++ (x ∷ []))) refl)
+  pub leaf_other : (q : Path) (n : Node) → look t q ≡ some n → ((m : Meta) → n ≡ dir m → ⊥) → Leaf q t
+  leaf_other q n e z = leaf-names q (λ x. at x (look t (q ++ (x ∷ []))) refl)
     where
       at : (x : Name) (o : Option Node) → look t (q ++ (x ∷ [])) ≡ o → o ≡ none
       at x none k = refl
@@ -276,11 +276,11 @@ module _ (w : World) (p q : Path) (a : Node) (z : w.hand ≡ []) (e : look w.at 
       shift_as (shift_then (take-hand w p a z k e) (give-new (apply (take p) w) q a (apart_under p w.at k) (in-hand p w.at a e) b)) refl (omega arith)
 
   -- over what stands there: the old name, the entries there, and what goes with them
-  pub move-over : (n : Node) → Single w → look (cut p w.at) q ≡ some n
+  pub move_over : (n : Node) → Single w → look (cut p w.at) q ≡ some n
       → Shift w (apply (give q) (apply (take p) w)) 0 (length (under q (cut p w.at))) 0 (name_length p + freed_in w.files w.opens (under q (cut p w.at)))
   unfolding apply
-  move-over n s f =
-      shift_as (shift_then (take-hand w p a z s.tidy.tree e) (give-over (apply (take p) w) q a n (single-edit w s (take p)) (in-hand p w.at a e) f)) (omega arith) (omega arith)
+  move_over n s f =
+      shift_as (shift_then (take-hand w p a z s.tidy.tree e) (give_over (apply (take p) w) q a n (single-edit w s (take p)) (in-hand p w.at a e) f)) (omega arith) (omega arith)
 
   -- over one entry with nothing below it
   pub move-leaf : (n : Node) → Single w → look (cut p w.at) q ≡ some n → Leaf q (cut p w.at)

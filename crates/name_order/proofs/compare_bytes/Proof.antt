@@ -5,7 +5,7 @@ use native.Mathlib.Numerals.{add-one}
 use native.Mathlib.Omega.{arith}
 use lib.ListN.{length, drop}
 use Rattle.name_order.specs.Order.{order_of}
-use Rattle.name_order.proofs.Orders.{order-end, order-short, order-long, order-less, order-more, order-next}
+use Rattle.name_order.proofs.Orders.{order-end, order-short, order-long, order-less, order_more, order_next}
 use Rattle.name_order.proofs.compare_bytes.Statement.{statement}
 use Rattle.name_order.proofs.compare_bytes.Tie as tie
 
@@ -40,7 +40,7 @@ returns-3 : tie.Need-returns-3 invariant-loop decreases-loop
 returns-3 c =
     let l = c.before.before.before.before.before.before.loop in
     let a = c.before.before.before.before.before.before.before.args in
-    sym (l.invariant.2 ∙ order-more a.a.now a.b.now l.i (omega arith) (omega arith) (omega arith))
+    sym (l.invariant.2 ∙ order_more a.a.now a.b.now l.i (omega arith) (omega arith) (omega arith))
 
 add-i : tie.Need-overflow-add-i invariant-loop decreases-loop
 add-i c = omega arith
@@ -52,7 +52,7 @@ loop-again : tie.Need-loop-preserved invariant-loop decreases-loop
 loop-again c =
     let l = c.before.before.before.before.before.before.loop in
     let a = c.before.before.before.before.before.before.before.args in
-    (omega arith, omega arith, l.invariant.2 ∙ rw add-one (order-next a.a.now a.b.now l.i (omega arith) (omega arith) (omega arith)))
+    (omega arith, omega arith, l.invariant.2 ∙ rw add-one (order_next a.a.now a.b.now l.i (omega arith) (omega arith) (omega arith)))
 
 returns-4 : tie.Need-returns-4 invariant-loop decreases-loop
 returns-4 c =

@@ -4,7 +4,7 @@ use mathlib.Core.Bool.{true}
 use native.Mathlib.Omega.{arith}
 use Rattle.path.specs.Backward.{sifted}
 use Rattle.path.specs.Path.{body}
-use Rattle.path.proofs.Forming.{forms_same, joined, both_long, forms-both}
+use Rattle.path.proofs.Forming.{forms_same, joined, both_long, forms_both}
 use borrow.Author.Rules.{rules}
 use Rattle.path_form.proofs.join.Statement.{statement}
 use Rattle.path_form.proofs.join.Tie as tie
@@ -22,7 +22,7 @@ returns-2 c = let d = c.before.before.measure2 in let p = c.before.before.before
 returns-3 : tie.Need-returns-3
 returns-3 c = let d = c.before.before.before.before.before.before.before.before.before.before.measure2 in let p = c.before.before.before.before.before.before.before.before.before.before.before.measure in let a = c.before.before.before.before.before.before.before.before.before.before.before.before.before.before.before.args in
     forms_same (sym (joined _ _ _ p.ensures.skip))
-    (forms-both (body (sifted true p.result.skip a.dir.now).kept) (body (sifted true 0 a.path.now).kept) _ _ _ _ _ d.ensures.len p.ensures.len
+    (forms_both (body (sifted true p.result.skip a.dir.now).kept) (body (sifted true 0 a.path.now).kept) _ _ _ _ _ d.ensures.len p.ensures.len
     (omega (arith, c.before.before.before.before.before.before.before.before.before.before.before.before.before.before.before.requires)) c.before.before.before.before.before.before.put-kept.ensures c.before.before.put-kept2.ensures (omega arith))
 
 pub join-spec : {M : Type 1} → statement M

@@ -6,7 +6,7 @@ use native.Mathlib.Numerals.{add-one}
 use native.Mathlib.Omega.{arith}
 use lib.ListN.{length, get_or, length-set}
 use Rattle.records.specs.Blocks.{changed, lift, Liftable}
-use Rattle.records.proofs.Lifts.{change-none, change-read, change-turn}
+use Rattle.records.proofs.Lifts.{change_none, change-read, change-turn}
 use Rattle.records.proofs.lift_words.Statement.{statement}
 use Rattle.records.proofs.lift_words.Tie as tie
 
@@ -17,7 +17,7 @@ abbrev decreases-loop : tie.decreases-loop
 decreases-loop records₀ a b up down j₀ records j = b - j
 
 loop-holds : tie.Need-loop-init invariant-loop decreases-loop
-loop-holds c = (le_refl _, omega arith, refl, change-none (lift c.args.up c.args.down) c.args.records.now c.args.a)
+loop-holds c = (le_refl _, omega arith, refl, change_none (lift c.args.up c.args.down) c.args.records.now c.args.a)
 
 mul-w : tie.Need-overflow-mul-w invariant-loop decreases-loop
 mul-w c = omega arith

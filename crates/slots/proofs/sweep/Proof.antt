@@ -4,7 +4,7 @@ use Prim.Native.Nat.{◌≤◌}
 use native.Mathlib.Nat.{le_refl}
 use native.Mathlib.Omega.{arith}
 use lib.ListN.{length}
-use Rattle.slots.proofs.Sweeps.{Sweeping, Ready, sweep-start, sweep-pre, sweep-next, sweep-done}
+use Rattle.slots.proofs.Sweeps.{Sweeping, Ready, sweep-start, sweep-pre, sweep_next, sweep-done}
 use Rattle.slots.proofs.sweep.Statement.{statement}
 use Rattle.slots.proofs.sweep.Tie as tie
 
@@ -53,7 +53,7 @@ loop-again c =
     let b = c.before.before.before.before.before.before.before.before.before.before.before.before.before.before in
     let l = c.before.before.before.before.before.before.before.before.before.before.loop in
     let s = c.before.before.before.before.sweep-step in
-    (omega arith, s.auto.0 ∙ l.invariant.1, s.auto.1.0 ∙ l.invariant.2, sweep-next b.args.heads.now b.args.bytes.now b.args.marks.now l.heads l.bytes l.src l.dst b.requires.0 b.requires.1 s.new.0 s.new.1.0 l.i s.result c.before.before.before.before.before.before.before.before.before.loop-test.true l.invariant.0 l.invariant.3 s.ensures)
+    (omega arith, s.auto.0 ∙ l.invariant.1, s.auto.1.0 ∙ l.invariant.2, sweep_next b.args.heads.now b.args.bytes.now b.args.marks.now l.heads l.bytes l.src l.dst b.requires.0 b.requires.1 s.new.0 s.new.1.0 l.i s.result c.before.before.before.before.before.before.before.before.before.loop-test.true l.invariant.0 l.invariant.3 s.ensures)
 
 same_length : tie.Need-same-length invariant-loop decreases-loop
 same_length c = c.before.loop.invariant.1

@@ -1,6 +1,6 @@
 -- `follow_behind` meets its contract.
 use native.Mathlib.Omega.{arith}
-use Rattle.test_probe.proofs.Laws.{behind_none, behind-all, reads-behind}
+use Rattle.test_probe.proofs.Laws.{behind_none, behind_all, reads-behind}
 use borrow.Author.Rules.{rules}
 use Rattle.test_probe.proofs.follow_behind.Statement.{statement}
 use Rattle.test_probe.proofs.follow_behind.Tie as tie
@@ -31,7 +31,7 @@ same_length c = search rules
 
 returns-2 : tie.Need-returns-2
 returns-2 c = let a = c.before.before.before.before.before.before.before.before.before.before.before.before.before.args in let p = c.before.before.before.before.before.before.before.before.before.before.before.before.before.requires in
-    behind-all a.out.now a.have a.behind.now a.name a.target.now p.3 (omega arith) (omega arith) (omega arith)
+    behind_all a.out.now a.have a.behind.now a.name a.target.now p.3 (omega arith) (omega arith) (omega arith)
     c.before.before.before.before.before.before.before.put.ensures c.before.before.before.follow.ensures c.number.ensures
 
 pub follow-behind-spec : {M : Type 1} → statement M

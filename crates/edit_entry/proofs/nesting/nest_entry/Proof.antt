@@ -3,7 +3,7 @@ use mathlib.Core.Path.{refl}
 use mir.Syntax.{w64}
 use mir.ValLaws.{to_z-of_z}
 use Rattle.edit_entry.proofs.Fills.{same_time}
-use Rattle.edit_entry.proofs.Lowering.{may-lower, nested-at}
+use Rattle.edit_entry.proofs.Lowering.{may-lower, nested_at}
 use borrow.Author.Rules.{rules}
 use Rattle.edit_entry.proofs.nesting.nest_entry.Statement.{statement}
 use Rattle.edit_entry.proofs.nesting.nest_entry.Tie as tie
@@ -60,7 +60,7 @@ returns : tie.Need-returns
 returns c st l n p k =
     let g = c.before.before.before.before.before.before.before.before.before.before.before.before.before.before.before.before.before.before.before.before.before.before.before.before.before in
     let a = g.args in
-    nested-at a.words.now a.records.now a.heads.now a.times.now st.paths a.bytes.now a.i a.e a.name.now a.mode a.t l n _ c.before.before.before.before.before.before.before.before.before.before.before.before.before.before.before.before.vacant-slot.ensures _ _ c.before.before.before.before.before.before.before.before.before.before.before.before.before.lower_block.ensures _ _ _ _
+    nested_at a.words.now a.records.now a.heads.now a.times.now st.paths a.bytes.now a.i a.e a.name.now a.mode a.t l n _ c.before.before.before.before.before.before.before.before.before.before.before.before.before.before.before.before.vacant-slot.ensures _ _ c.before.before.before.before.before.before.before.before.before.before.before.before.before.lower_block.ensures _ _ _ _
     (same_time (to_z-of_z w64 a.t g.ranges.t) c.before.before.before.before.before.fill-slot.ensures) refl p k
 
 pub nest-entry-spec : {M : Type 1} → statement M

@@ -7,7 +7,7 @@ use lib.ListN.{length-replicate}
 use lib.Seq.{length-take-le}
 use borrow.Author.Rules.{rules}
 use Rattle.layout.proofs.Zeros.{zeros-read}
-use Rattle.edit_entry.proofs.Clears.{all-marked, used-swept}
+use Rattle.edit_entry.proofs.Clears.{all_marked, used-swept}
 use Rattle.edit_entry.proofs.removing.free_unused.Statement.{statement}
 use Rattle.edit_entry.proofs.removing.free_unused.Tie as tie
 
@@ -16,7 +16,7 @@ mark-records-requires c κs = ((λ i h. omega (arith, c.before.before.before.bef
 
 mark-numbers-requires : tie.Need-mark-numbers-requires
 mark-numbers-requires c κs = let s = c.before.before.before.before.before.before.before in let m = c.before.mark-records in
-    let t = all-marked s.args.words.now s.args.recs.now s.args.heads.now s.requires.3 s.requires.4 _ m.result m.ensures.0 in
+    let t = all_marked s.args.words.now s.args.recs.now s.args.heads.now s.requires.3 s.requires.4 _ m.result m.ensures.0 in
     (s.requires.0, s.requires.1, m.ensures.1, λ k. omega (arith, (t k).0, (t k).1))
 
 array-share-prefix-marks : tie.Need-array-share-prefix-marks
@@ -36,7 +36,7 @@ same-length-2 c = search rules
 
 returns : tie.Need-returns
 returns c = let s = c.before.before.before.before.before.before.before.before.before.before.before.before.before.before.before.before in let m = c.before.before.before.before.before.before.before.before.before.before.mark-records in
-    let t = all-marked s.args.words.now s.args.recs.now s.args.heads.now s.requires.3 s.requires.4 _ m.result m.ensures.0 in
+    let t = all_marked s.args.words.now s.args.recs.now s.args.heads.now s.requires.3 s.requires.4 _ m.result m.ensures.0 in
     used-swept s.args.words.now s.args.recs.now s.args.heads.now s.requires.3 s.requires.4 m.new.1.0 c.before.before.before.before.before.before.before.before.mark-numbers.new.1.0 t c.before.before.before.before.before.before.before.before.mark-numbers.ensures.0 (omega (arith, c.before.before.before.before.before.before.before.before.mark-numbers.ensures.1, s.requires.2)) s.args.bytes.now _ _ c.before.before.before.before.sweep.ensures
 
 pub free-unused-spec : {M : Type 1} → statement M

@@ -9,7 +9,7 @@ use borrow.Author.Rules.{rules}
 use borrow.Author.Tests.{not-true, not-false}
 use Rattle.layout.specs.Rows.{rows, name_total}
 use Rattle.lawful_entries.specs.Looks.{text_rows}
-use Rattle.lawful_entries.proofs.Looking.{total-at, text-bad, text-on, text-end}
+use Rattle.lawful_entries.proofs.Looking.{total_at, text-bad, text_on, text-end}
 use Rattle.lawful_entries.proofs.looks.names_text.Statement.{statement}
 use Rattle.lawful_entries.proofs.looks.names_text.Tie as tie
 
@@ -29,7 +29,7 @@ shared-slice-read-e : tie.Need-shared-slice-read-e invariant-loop decreases-loop
 shared-slice-read-e c = omega arith
 
 add-e : tie.Need-overflow-add-e invariant-loop decreases-loop
-add-e c = let a = c.before.before.before.before.before.args in let l = c.before.before.loop in omega (arith, total-at a.recs.now a.bytes.now l.i l.off (omega arith))
+add-e c = let a = c.before.before.before.before.before.args in let l = c.before.before.loop in omega (arith, total_at a.recs.now a.bytes.now l.i l.off (omega arith))
 
 sub-text-ok : tie.Need-overflow-sub-text-ok invariant-loop decreases-loop
 sub-text-ok c = omega arith
@@ -38,7 +38,7 @@ part-text-ok-start : tie.Need-slice-bounds-text-ok-start invariant-loop decrease
 part-text-ok-start c = omega arith
 
 part-text-ok-end : tie.Need-slice-bounds-text-ok-end invariant-loop decreases-loop
-part-text-ok-end c = let a = c.before.before.before.before.before.args in let l = c.before.before.loop in omega (arith, total-at a.recs.now a.bytes.now l.i l.off (omega arith))
+part-text-ok-end c = let a = c.before.before.before.before.before.args in let l = c.before.before.loop in omega (arith, total_at a.recs.now a.bytes.now l.i l.off (omega arith))
 
 text-ok-requires : tie.Need-text-ok-requires invariant-loop decreases-loop
 text-ok-requires c κs = search rules
@@ -56,8 +56,8 @@ loop-less c = omega arith
 loop-again : tie.Need-loop-preserved invariant-loop decreases-loop
 loop-again c = let a = c.before.before.before.before.before.before.before.before.args in let l = c.before.before.before.before.before.loop in let t = c.before.text-ok in (
   omega arith,
-  rw add-one (omega (arith, total-at a.recs.now a.bytes.now l.i l.off (omega arith))),
-  l.invariant.2 ∙ text-on a.recs.now a.bytes.now l.i l.off (omega arith) t.result _ refl t.ensures (not-false t.result c.if1.false),
+  rw add-one (omega (arith, total_at a.recs.now a.bytes.now l.i l.off (omega arith))),
+  l.invariant.2 ∙ text_on a.recs.now a.bytes.now l.i l.off (omega arith) t.result _ refl t.ensures (not-false t.result c.if1.false),
 )
 
 returns-2 : tie.Need-returns-2 invariant-loop decreases-loop

@@ -7,7 +7,7 @@ use lib.ListN.{length, length-replicate}
 use borrow.Author.Rules.{rules}
 use borrow.Author.Tests.{not-true, not-false}
 use Rattle.lawful_entries.specs.Fits.{kind_in}
-use Rattle.lawful_entries.proofs.Walking.{root_none, root-bad, root-on, root-total}
+use Rattle.lawful_entries.proofs.Walking.{root_none, root-bad, root_on, root-total}
 use borrow.Author.Rules.{rules}
 use Rattle.lawful_entries.proofs.walk.walk_ok.Statement.{statement}
 use Rattle.lawful_entries.proofs.walk.walk_ok.Tie as tie
@@ -28,7 +28,7 @@ walk-rest-requires : tie.Need-walk-rest-requires
 walk-rest-requires c κs = let s = c.before.before.before.before.before.before.before.before in let a = s.args in (omega arith, s.requires.1, omega (arith, s.requires.0, root-total a.recs.now), s.requires.2, length-replicate {A = ℕ} 4096 0)
 
 returns-3 : tie.Need-returns-3
-returns-3 c = let s = c.before.before.before.before.before.before.before.before.before in let a = s.args in c.walk-rest.ensures ∙ root-on (kind_in a.heads.now) (length a.heads.now) a.recs.now a.bytes.now (omega arith) s.requires.0 (sym c.before.before.before.root_ok.ensures ∙ not-false c.before.before.before.root_ok.result c.before.before.if2.false)
+returns-3 c = let s = c.before.before.before.before.before.before.before.before.before in let a = s.args in c.walk-rest.ensures ∙ root_on (kind_in a.heads.now) (length a.heads.now) a.recs.now a.bytes.now (omega arith) s.requires.0 (sym c.before.before.before.root_ok.ensures ∙ not-false c.before.before.before.root_ok.result c.before.before.if2.false)
 
 pub walk-ok-spec : {M : Type 1} → statement M
 walk-ok-spec =

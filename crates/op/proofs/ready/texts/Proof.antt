@@ -2,7 +2,7 @@
 -- Assumes nothing.
 use mathlib.Core.Path.{sym, ◌∙◌}
 use borrow.Author.Tests.{not-true, not-false}
-use Rattle.op.proofs.Screening.{first-bad, second-bad, first-long, second-long, texts-pass}
+use Rattle.op.proofs.Screening.{first_bad, second-bad, first_long, second-long, texts-pass}
 use borrow.Author.Rules.{rules}
 use Rattle.op.proofs.ready.texts.Statement.{statement}
 use Rattle.op.proofs.ready.texts.Tie as tie
@@ -17,7 +17,7 @@ text-ok-requires c κs = search rules
 
 -- src/ready.rt:83:9
 returns : tie.Need-returns
-returns c = first-bad _ _ 0 (sym c.before.text-ok.ensures ∙ not-true _ c.if1.true)
+returns c = first_bad _ _ 0 (sym c.before.text-ok.ensures ∙ not-true _ c.if1.true)
 
 -- src/ready.rt:85:9
 text-ok-requires-2 : tie.Need-text-ok-requires-2
@@ -33,7 +33,7 @@ lengths-ok-requires c κs = search rules
 
 -- src/ready.rt:89:9
 returns-3 : tie.Need-returns-3
-returns-3 c = first-long _ _ 0 (sym c.before.before.before.before.before.text-ok.ensures ∙ not-false _ c.before.before.before.before.if1.false) (sym c.before.before.before.text-ok2.ensures ∙ not-false _ c.before.before.if2.false) (sym c.before.lengths-ok.ensures ∙ not-true _ c.if3.true)
+returns-3 c = first_long _ _ 0 (sym c.before.before.before.before.before.text-ok.ensures ∙ not-false _ c.before.before.before.before.if1.false) (sym c.before.before.before.text-ok2.ensures ∙ not-false _ c.before.before.if2.false) (sym c.before.lengths-ok.ensures ∙ not-true _ c.if3.true)
 
 -- src/ready.rt:91:9
 lengths-ok-requires-2 : tie.Need-lengths-ok-requires-2

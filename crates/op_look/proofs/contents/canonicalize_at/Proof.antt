@@ -5,7 +5,7 @@ use native.Mathlib.Omega.{arith}
 use lib.Seq.{length-take-le}
 use Rattle.op.proofs.Doing.{does-refused}
 use Rattle.op.proofs.Leading.{led-count}
-use Rattle.op_look.proofs.Reading.{bytes-refused, bytes-told, canonical-refused, canonical-there, led-plain, led-fits}
+use Rattle.op_look.proofs.Reading.{bytes-refused, bytes-told, canonical-refused, canonical_there, led-plain, led-fits}
 use borrow.Author.Rules.{rules}
 use Rattle.op_look.proofs.contents.canonicalize_at.Statement.{statement}
 use Rattle.op_look.proofs.contents.canonicalize_at.Tie as tie
@@ -41,7 +41,7 @@ same-length-2 c = search rules
 
 returns : tie.Need-returns
 returns c = λ st s h. let l = c.before.before.before.before.before.before.before.before.before.before.before.before.leads.ensures st s h in
-    bytes-refused _ s _ h _ _ _ _ _ _ _ _ (canonical-there _ s _ _ _ _ _ l _ _ _ _ c.before.before.before.before.before.before.before.before.n.given.1) c.before.before.before.put-path.ensures c.if1.true
+    bytes-refused _ s _ h _ _ _ _ _ _ _ _ (canonical_there _ s _ _ _ _ _ l _ _ _ _ c.before.before.before.before.before.before.before.before.n.given.1) c.before.before.before.put-path.ensures c.if1.true
 
 same-length-3 : tie.Need-same-length-3
 same-length-3 c = search rules
@@ -57,7 +57,7 @@ same-length-5 c = search rules
 
 returns-3 : tie.Need-returns-3
 returns-3 c = λ st s h. let l = c.before.before.before.before.before.before.before.before.before.before.before.before.leads.ensures st s h in let x = c.before.before.before.before.before.before.before.before.n.given.1 in
-    bytes-told _ s _ h _ _ _ _ _ _ _ _ (canonical-there _ s _ _ _ _ _ l _ _ _ _ x) c.before.before.before.put-path.ensures c.if1.false _ (led-count _ _ s _ _ _ l _ _ _ _ x)
+    bytes-told _ s _ h _ _ _ _ _ _ _ _ (canonical_there _ s _ _ _ _ _ l _ _ _ _ x) c.before.before.before.put-path.ensures c.if1.false _ (led-count _ _ s _ _ _ l _ _ _ _ x)
 
 pub canonicalize-at-spec : {M : Type 1} → statement M
 canonicalize-at-spec =

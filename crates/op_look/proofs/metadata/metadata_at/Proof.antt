@@ -3,7 +3,7 @@
 use Rattle.layout.specs.Lent.{with_times, with_bytes}
 use Rattle.op.proofs.Doing.{does-refused}
 use Rattle.op.proofs.Leading.{led-stands, led-count}
-use Rattle.op_look.proofs.Showing.{row-refused, row-shown, metadata-refused, metadata-there}
+use Rattle.op_look.proofs.Showing.{row-refused, row-shown, metadata-refused, metadata_there}
 use borrow.Author.Rules.{rules}
 use Rattle.op_look.proofs.metadata.metadata_at.Statement.{statement}
 use Rattle.op_look.proofs.metadata.metadata_at.Tie as tie
@@ -29,7 +29,7 @@ same-length-2 c = search rules
 
 returns : tie.Need-returns
 returns c = λ st s h. let b = c.before.before.before.before.before.before.before.before.before.before.before.before.before.before.before.before in let l = c.before.before.before.before.before.before.before.before.before.leads.ensures (with_times b.args.times st) s h in let x = c.before.before.before.before.before.spot.given.1 in
-    row-refused _ s _ h _ _ _ _ _ _ (metadata-there _ s _ _ _ _ _ l _ _ _ _ x) (c.before.before.show.ensures (with_bytes b.args.bytes st) s h _ (led-stands _ _ s _ _ _ l _ _ _ _ x)) c.if1.true
+    row-refused _ s _ h _ _ _ _ _ _ (metadata_there _ s _ _ _ _ _ l _ _ _ _ x) (c.before.before.show.ensures (with_bytes b.args.bytes st) s h _ (led-stands _ _ s _ _ _ l _ _ _ _ x)) c.if1.true
 
 same-length-3 : tie.Need-same-length-3
 same-length-3 c = search rules
@@ -45,7 +45,7 @@ same-length-5 c = search rules
 
 returns-3 : tie.Need-returns-3
 returns-3 c = λ st s h. let b = c.before.before.before.before.before.before.before.before.before.before.before.before.before.before.before.before in let l = c.before.before.before.before.before.before.before.before.before.leads.ensures (with_times b.args.times st) s h in let x = c.before.before.before.before.before.spot.given.1 in
-    row-shown _ s _ h _ _ _ _ _ _ (metadata-there _ s _ _ _ _ _ l _ _ _ _ x) (c.before.before.show.ensures (with_bytes b.args.bytes st) s h _ (led-stands _ _ s _ _ _ l _ _ _ _ x)) c.if1.false _
+    row-shown _ s _ h _ _ _ _ _ _ (metadata_there _ s _ _ _ _ _ l _ _ _ _ x) (c.before.before.show.ensures (with_bytes b.args.bytes st) s h _ (led-stands _ _ s _ _ _ l _ _ _ _ x)) c.if1.false _
     (led-count _ _ s _ _ _ l _ _ _ _ x)
 
 pub metadata-at-spec : {M : Type 1} → statement M

@@ -1,6 +1,6 @@
 -- `behind` meets its contract: the position is behind the end, or so many bytes are not there, or they are.
 -- Assumes nothing.
-use Rattle.op_number.proofs.Reading.{behind-end, behind-all, behind-some}
+use Rattle.op_number.proofs.Reading.{behind-end, behind_all, behind_some}
 use Rattle.std.proofs.Common.{rules}
 use Rattle.op_number.proofs.position.behind.Statement.{statement}
 use Rattle.op_number.proofs.position.behind.Tie as tie
@@ -24,7 +24,7 @@ part-result-end : tie.Need-slice-bounds-result-end
 part-result-end c = search rules
 
 returns-2 : tie.Need-returns-2
-returns-2 c = let a = c.before.before.before.args in behind-all a.s.now a.pos a.most c.before.if2.true
+returns-2 c = let a = c.before.before.before.args in behind_all a.s.now a.pos a.most c.before.if2.true
 
 add-result : tie.Need-overflow-add-result
 add-result c = search rules
@@ -39,7 +39,7 @@ part-result-end-2 : tie.Need-slice-bounds-result-end-2
 part-result-end-2 c = search rules
 
 returns-3 : tie.Need-returns-3
-returns-3 c = let a = c.before.before.before.args in behind-some a.s.now a.pos a.most
+returns-3 c = let a = c.before.before.before.args in behind_some a.s.now a.pos a.most
 
 pub behind-spec : {M : Type 1} → statement M
 behind-spec =

@@ -1,7 +1,7 @@
 -- `from_end` meets its contract: the sum is 2^63 or more, or below 0, or a position.
 -- Assumes nothing.
 use Rattle.std.proofs.Common.{arith, rules}
-use Rattle.op_number.proofs.Seeking.{end-at, end_below, end-above, sum_up, sum-down}
+use Rattle.op_number.proofs.Seeking.{end_at, end_below, end-above, sum_up, sum-down}
 use Rattle.op_number.proofs.position.from_end.Statement.{statement}
 use Rattle.op_number.proofs.position.from_end.Tie as tie
 
@@ -15,7 +15,7 @@ add-t5 : tie.Need-overflow-add-t5
 add-t5 c = search rules
 
 returns-2 : tie.Need-returns-2
-returns-2 c = let b = c.before.before in λ w. end-at b.args.size b.args.offset w _ (sum_up b.args.size b.args.offset c.before.if1.true) (omega (arith, c.if2.false, b.requires))
+returns-2 c = let b = c.before.before in λ w. end_at b.args.size b.args.offset w _ (sum_up b.args.size b.args.offset c.before.if1.true) (omega (arith, c.if2.false, b.requires))
 
 sub_back : tie.Need-overflow-sub-back
 sub_back c = search rules
@@ -24,7 +24,7 @@ returns-3 : tie.Need-returns-3
 returns-3 c = let b = c.before.before in λ w. end_below b.args.size b.args.offset w (omega (arith, sum-down b.args.size b.args.offset c.before.if1.false (omega (arith, b.ranges.offset))))
 
 returns-4 : tie.Need-returns-4
-returns-4 c = let b = c.before.before in λ w. let e = sum-down b.args.size b.args.offset c.before.if1.false (omega (arith, b.ranges.offset)) in end-at b.args.size b.args.offset w _ (omega (arith, e)) (omega arith)
+returns-4 c = let b = c.before.before in λ w. let e = sum-down b.args.size b.args.offset c.before.if1.false (omega (arith, b.ranges.offset)) in end_at b.args.size b.args.offset w _ (omega (arith, e)) (omega arith)
 
 pub from-end-spec : {M : Type 1} → statement M
 from-end-spec = tie.close (tie.spec sub-if2 returns add-t5 returns-2 sub_back returns-3 returns-4)

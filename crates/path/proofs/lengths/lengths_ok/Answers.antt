@@ -3,14 +3,14 @@ use borrow.Author.Rules.{rules}
 use Prim.Native.Nat.{◌-◌, ◌≤◌}
 use native.Mathlib.Omega.{arith}
 use lib.ListN.{length}
-use Rattle.path.proofs.Texts.{Rest, rest-whole, rest-on, rest-long, rest-short, too_long}
+use Rattle.path.proofs.Texts.{Rest, rest_whole, rest-on, rest-long, rest-short, too_long}
 use Rattle.path.proofs.lengths.lengths_ok.Goals as goal
 
 pub returns-then-s-gt1024 : goal.returns-then-s-gt1024
 returns-then-s-gt1024 c = too_long _ c.if-s-gt1024.true
 
 pub loop-i-init : goal.loop-i-init
-loop-i-init c = (omega arith, rest-whole _)
+loop-i-init c = (omega arith, rest_whole _)
 
 pub returns-then-a-i : goal.returns-then-a-i
 returns-then-a-i c = let l = c.loop-i in rest-long _ l.i l.invariant.1 _ (omega arith) (omega arith) c.if-a-i.true c.piece_start-a.ensures

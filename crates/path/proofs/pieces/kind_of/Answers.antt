@@ -1,7 +1,7 @@
 -- `pieces::kind_of` meets its contract: each way out is one law on the kind of a piece.
 use mathlib.Core.Path.{sym}
 use native.Mathlib.Omega.{arith}
-use Rattle.path.proofs.Dots.{kind-none, kind-long, kind-other, kind-dot, kind_two, kind-struck, kind-named}
+use Rattle.path.proofs.Dots.{kind_none, kind-long, kind_other, kind-dot, kind_two, kind-struck, kind-named}
 use borrow.Author.Rules.{rules}
 use Rattle.path.proofs.pieces.kind_of.Goals as goal
 
@@ -9,10 +9,10 @@ pub returns-then-len-gt2 : goal.returns-then-len-gt2
 returns-then-len-gt2 c = sym (kind-long _ _ c.if-len-gt2.true)
 
 pub returns-then-len-eq0 : goal.returns-then-len-eq0
-returns-then-len-eq0 c = sym (kind-none _ _ c.if-len-eq0.true)
+returns-then-len-eq0 c = sym (kind_none _ _ c.if-len-eq0.true)
 
 pub returns-then-n-ne46 : goal.returns-then-n-ne46
-returns-then-n-ne46 c = sym (kind-other _ _ (omega arith) c.if-n-ne46.true)
+returns-then-n-ne46 c = sym (kind_other _ _ (omega arith) c.if-n-ne46.true)
 
 pub returns-then-len-eq1 : goal.returns-then-len-eq1
 returns-then-len-eq1 c = sym (kind-dot _ _ c.if-len-eq1.true c.if-n-ne46.false)

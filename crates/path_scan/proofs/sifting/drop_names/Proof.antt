@@ -10,7 +10,7 @@ use Rattle.path.specs.Path.{Name, names, body}
 use Rattle.path.specs.Backward.{drop_n}
 use Rattle.path.proofs.Cutting.{NoSlash}
 use Rattle.path.proofs.Dropping.{drop-step, drop_all, drop-done, drop_next, names_no_slash}
-use Rattle.path.proofs.Every.{Every, every-dropLast}
+use Rattle.path.proofs.Every.{Every, every-drop_last}
 use Rattle.path_scan.proofs.sifting.drop_names.Statement.{statement}
 use Rattle.path_scan.proofs.sifting.drop_names.Tie as tie
 
@@ -39,7 +39,7 @@ sub-h c = (stepped c).0
 
 loop-again : tie.Need-loop-preserved invariant-loop decreases-loop
 loop-again c = let l = c.before.before.before.loop in
-    (drop_last l.invariant.0, every-dropLast NoSlash l.invariant.0 l.invariant.1, omega arith, (stepped c).1, drop_next l.j l.invariant.0 _ (omega arith) l.invariant.4)
+    (drop_last l.invariant.0, every-drop_last NoSlash l.invariant.0 l.invariant.1, omega arith, (stepped c).1, drop_next l.j l.invariant.0 _ (omega arith) l.invariant.4)
 
 returns-2 : tie.Need-returns-2 invariant-loop decreases-loop
 returns-2 c = let l = c.before.loop in

@@ -11,7 +11,7 @@ use Rattle.path.specs.Answer.{BackIs}
 use Rattle.path.specs.declared.answer.Back.TheVariants.{Gone, Keeps}
 use Rattle.path.proofs.Cutting.{part_length}
 use Rattle.path.proofs.Reading.{Read, read_none, read-gone, read_kept, read_fits, told, body-cons-length}
-use Rattle.path.proofs.Storing.{Stored, stored_none, stored_more, stored-all}
+use Rattle.path.proofs.Storing.{Stored, stored_none, stored_more, stored_all}
 use Rattle.path_scan.proofs.sifting.put_back.Statement.{statement}
 use Rattle.path_scan.proofs.sifting.put_back.Tie as tie
 
@@ -105,7 +105,7 @@ returns c =
     let a = c.before.before.before.before.args in
     let z : l.rest ≡ 0 = omega arith in
     let r : Read a.strike a.s.now a.behind 0 l.skip l.invariant.0 = rw z at l.invariant.1 in
-    stored-all _ _ _ _ l.invariant.0 l.invariant.2 _ _ _ _ r
+    stored_all _ _ _ _ l.invariant.0 l.invariant.2 _ _ _ _ r
 
 pub put-back-spec : {M : Type 1} → statement M
 put-back-spec =

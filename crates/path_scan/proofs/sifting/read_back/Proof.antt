@@ -5,7 +5,7 @@ use native.Mathlib.Omega.{arith}
 use Rattle.path.specs.Backward.{part}
 use Rattle.path.proofs.Cutting.{part_length}
 use Rattle.path.proofs.Dots.{named, up_length}
-use Rattle.path.proofs.Reading.{back-gone, back-up, back-dropped, back-kept}
+use Rattle.path.proofs.Reading.{back-gone, back_up, back-dropped, back-kept}
 use borrow.Author.Rules.{rules}
 use Rattle.path_scan.proofs.sifting.read_back.Statement.{statement}
 use Rattle.path_scan.proofs.sifting.read_back.Tie as tie
@@ -22,7 +22,7 @@ add-t13 c = let f = c.before.before.before.before.before.before in let p = c.bef
 
 returns-2 : tie.Need-returns-2
 returns-2 c = let f = c.before.before.before.before.before.before in let p = c.before.before.before.before.piece-start in
-    back-up f.args.strike f.args.s.now f.args.rest p.result f.requires.0 p.ensures f.args.skip
+    back_up f.args.strike f.args.s.now f.args.rest p.result f.requires.0 p.ensures f.args.skip
     (sym c.before.before.kind-of.ensures ∙ c.if2.true)
 
 returns-3 : tie.Need-returns-3

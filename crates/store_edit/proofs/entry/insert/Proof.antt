@@ -8,7 +8,7 @@ use mir.ValLaws.{to_z-of_z}
 use Rattle.layout.specs.Lent.{◌∘◌, with_words, with_records, with_heads, with_times, with_bytes}
 use Rattle.edit_entry.specs.Insertion.{insertion}
 use Rattle.edit_room.proofs.Parting.{part_within}
-use Rattle.store_edit.proofs.Carrying.{shows-whole, shows-resized, shows-released, roomy_of}
+use Rattle.store_edit.proofs.Carrying.{shows_whole, shows-resized, shows-released, roomy_of}
 use Rattle.store_edit.proofs.Inserting.{insert-may, same_inserted, stands-new}
 use Rattle.store_edit.proofs.Resizing.{stands-released}
 use borrow.Author.Rules.{rules}
@@ -60,7 +60,7 @@ release-requires c κs = let q = c.before.before.before.before.before.before.bef
     let d = q.0.3.0 in
     let x = c.before.before.before.before.before.before.before.before.before.before.before.insert_entry in
     let z = same_inserted (to_z-of_z w64 g.t c.before.before.before.before.before.before.before.before.before.before.before.before.before.before.before.before.before.before.before.before.before.before.before.before.before.before.before.before.before.before.before.ranges.t) (x.ensures u r.resized.roomy.lawful d (insert-may h r refl refl g.name.now g.gap g.kind g.mode g.t g.text.now d q.1 q.2 q.0.3.1)) in
-    roomy_of (shows-whole (insertion g.kind (d ++ (g.name.now ∷ [])) g.mode g.t g.text.now ∷ []) _ _ _ (shows-resized h r.resized) z.spells x.auto.1.1.0 x.auto.1.0).roomy
+    roomy_of (shows_whole (insertion g.kind (d ++ (g.name.now ∷ [])) g.mode g.t g.text.now ∷ []) _ _ _ (shows-resized h r.resized) z.spells x.auto.1.1.0 x.auto.1.0).roomy
 
 -- src/entry.rt:22:1
 same_length : tie.Need-same-length
@@ -92,7 +92,7 @@ returns c = λ st s d h f.
     let x = c.before.before.before.before.before.before.before.before.before.before.before.before.before.before.insert_entry in
     let m = insert-may h r refl refl g.name.now g.gap g.kind g.mode g.t g.text.now d q.1 q.2 f in
     let z = same_inserted (to_z-of_z w64 g.t c.before.before.before.before.before.before.before.before.before.before.before.before.before.before.before.before.before.before.before.before.before.before.before.before.before.before.before.before.before.before.before.before.before.before.ranges.t) (x.ensures u r.resized.roomy.lawful d m) in
-    let k = shows-whole (insertion g.kind (d ++ (g.name.now ∷ [])) g.mode g.t g.text.now ∷ []) _ _ _ (shows-resized h r.resized) z.spells x.auto.1.1.0 x.auto.1.0 in
+    let k = shows_whole (insertion g.kind (d ++ (g.name.now ∷ [])) g.mode g.t g.text.now ∷ []) _ _ _ (shows-resized h r.resized) z.spells x.auto.1.1.0 x.auto.1.0 in
     record {
       shows = shows-released k c.before.before.release.ensures;
       stands = stands-released k.roomy c.before.before.release.ensures _ _ (stands-new h r refl refl g.gap f.free.vacant m z);

@@ -9,7 +9,7 @@ use Rattle.model.specs.Prog.{make}
 use Rattle.model.specs.Operations.Steps.{fresh}
 use Rattle.layout.specs.Lent.{◌∘◌, with_words, with_records, with_heads, with_times, with_bytes}
 use Rattle.edit_room.proofs.Parting.{part_within}
-use Rattle.store_edit.proofs.Carrying.{shows-whole, shows-resized, shows-released, roomy_of}
+use Rattle.store_edit.proofs.Carrying.{shows_whole, shows-resized, shows-released, roomy_of}
 use Rattle.store_edit.proofs.Resizing.{stands-released}
 use Rattle.store_edit.proofs.Rooting.{root-may, stands-root, same_rooted}
 use borrow.Author.Rules.{rules}
@@ -60,7 +60,7 @@ release-requires c κs = let q = c.before.before.before.before.before.before.bef
     let w = shows-resized q.2 r.resized in
     let x = c.before.before.before.before.before.before.before.before.before.before.before.insert-root in
     let z = same_rooted w g.mode (to_z-of_z w64 g.t c.before.before.before.before.before.before.before.before.before.before.before.before.before.before.before.before.before.before.before.before.before.before.before.before.before.before.before.before.before.ranges.t) (x.ensures u r.resized.roomy.lawful) in
-    roomy_of (shows-whole (make [] (fresh g.mode g.t) ∷ []) _ _ _ w z x.auto.1.1.0 x.auto.1.0).roomy
+    roomy_of (shows_whole (make [] (fresh g.mode g.t) ∷ []) _ _ _ w z x.auto.1.1.0 x.auto.1.0).roomy
 
 -- src/entry.rt:154:1
 same_length : tie.Need-same-length
@@ -91,7 +91,7 @@ returns c = λ st s h f.
     let w = shows-resized h r.resized in
     let x = c.before.before.before.before.before.before.before.before.before.before.before.before.before.before.insert-root in
     let z = same_rooted w g.mode (to_z-of_z w64 g.t c.before.before.before.before.before.before.before.before.before.before.before.before.before.before.before.before.before.before.before.before.before.before.before.before.before.before.before.before.before.before.before.before.ranges.t) (x.ensures u r.resized.roomy.lawful) in
-    let k = shows-whole (make [] (fresh g.mode g.t) ∷ []) _ _ _ w z x.auto.1.1.0 x.auto.1.0 in
+    let k = shows_whole (make [] (fresh g.mode g.t) ∷ []) _ _ _ w z x.auto.1.1.0 x.auto.1.0 in
     record {
       shows = shows-released k c.before.before.release.ensures;
       stands = stands-released k.roomy c.before.before.release.ensures _ _ (stands-root w g.mode g.t z);

@@ -5,7 +5,7 @@ use mathlib.Core.List.{[], ◌∷◌, ◌++◌}
 use Rattle.model.specs.Prog.{remove}
 use Rattle.layout.specs.Lent.{◌∘◌, with_words, with_records, with_heads, with_bytes}
 use Rattle.edit_room.specs.Extents.{trim}
-use Rattle.store_edit.proofs.Carrying.{shows-whole, shows-released, roomy_of}
+use Rattle.store_edit.proofs.Carrying.{shows_whole, shows-released, roomy_of}
 use Rattle.store_edit.proofs.Removing.{remove-block, removed-released}
 use borrow.Author.Rules.{rules}
 use Rattle.store_edit.proofs.entry.remove.Statement.{statement}
@@ -50,7 +50,7 @@ release-requires c κs = let q = c.before.before.before.before.before.before.bef
     let u = (with_words g.words ∘ with_records g.records ∘ with_heads g.heads ∘ with_bytes g.bytes) q.0 in
     let x = c.before.before.before.before.before.before.before.before.before.before.remove_entry in
     let p = q.3.0 ++ (q.3.1 ∷ []) in
-    roomy_of (shows-whole (remove p ∷ []) u _ q.1 q.2 (x.ensures (trim u) q.2.roomy.lawful p q.3.2.path).spells x.auto.1.1.0 x.auto.1.0).roomy
+    roomy_of (shows_whole (remove p ∷ []) u _ q.1 q.2 (x.ensures (trim u) q.2.roomy.lawful p q.3.2.path).spells x.auto.1.1.0 x.auto.1.0).roomy
 
 -- src/entry.rt:183:1
 same_length : tie.Need-same-length
@@ -75,7 +75,7 @@ returns c = λ st s d y h a.
     let u = (with_words g.words ∘ with_records g.records ∘ with_heads g.heads ∘ with_bytes g.bytes) st in
     let x = c.before.before.before.before.before.before.before.before.before.before.before.before.before.remove_entry in
     let z = x.ensures (trim u) h.roomy.lawful (d ++ (y ∷ [])) a.path in
-    let k = shows-whole (remove (d ++ (y ∷ [])) ∷ []) u _ s h z.spells x.auto.1.1.0 x.auto.1.0 in
+    let k = shows_whole (remove (d ++ (y ∷ [])) ∷ []) u _ s h z.spells x.auto.1.1.0 x.auto.1.0 in
     record {
       shows = shows-released k c.before.before.release.ensures;
       free = removed-released h g.spot d y a _ c.before.before.before.before.before.before.before.before.before.before.before.before.before.before.before.before.before.before.before.block-end.ensures z k c.before.before.release.ensures;

@@ -12,7 +12,7 @@ use Rattle.model.specs.Operations.Steps.{fresh}
 use Rattle.model.specs.Prog.{take, make, give}
 use Rattle.layout.specs.Lent.{◌∘◌, with_words, with_records, with_heads, with_times, with_bytes}
 use Rattle.edit_room.specs.Extents.{trim}
-use Rattle.store_edit.proofs.Carrying.{shows-whole}
+use Rattle.store_edit.proofs.Carrying.{shows_whole}
 use Rattle.store_edit.proofs.Nesting.{next_low, may-nest, stands-nested, same_time}
 use borrow.Author.Rules.{rules}
 use Rattle.store_edit.proofs.moving.nest_free.Statement.{statement}
@@ -80,7 +80,7 @@ returns c = λ st free s p h a n.
     let x = c.before.before.before.before.before.before.before.before.before.nest-entry in
     let y = same_time (to_z-of_z w64 g.t c.before.before.before.before.before.before.before.before.before.before.before.before.before.before.before.before.before.before.before.before.before.before.before.before.before.before.before.ranges.t) (x.ensures (trim u) h.roomy.lawful m p a.path) in
     record {
-      shows = shows-whole (take p ∷ make p (fresh g.mode g.t) ∷ give (p ++ (g.name.now ∷ [])) ∷ []) u _ s h y.spells x.auto.1.1.0 x.auto.1.0;
+      shows = shows_whole (take p ∷ make p (fresh g.mode g.t) ∷ give (p ++ (g.name.now ∷ [])) ∷ []) u _ s h y.spells x.auto.1.1.0 x.auto.1.0;
       at = stands-nested u _ s h g.spot p a g.name.now g.mode g.t y _ (add-one g.spot.at) (ap (λ (k : ℕ). g.spot.off + k) c.before.before.before.before.before.before.before.before.before.before.before.before.before.before.before.before.before.before.before.before.nlen-of.ensures);
     }
 

@@ -7,7 +7,7 @@ use Rattle.model.specs.Tree.{chmod}
 use Rattle.model.specs.Prog.{change_held}
 use Rattle.layout.specs.Lent.{◌∘◌, with_words, with_heads}
 use Rattle.edit_room.specs.Extents.{trim}
-use Rattle.store_edit.proofs.Carrying.{shows-whole}
+use Rattle.store_edit.proofs.Carrying.{shows_whole}
 use Rattle.store_edit.proofs.Entering.{open_at}
 use borrow.Author.Rules.{rules}
 use Rattle.store_edit.proofs.number.chmod_held.Statement.{statement}
@@ -47,7 +47,7 @@ returns c = λ st s h o.
     let g = c.before.before.before.before.before.before.before.before.args in
     let u = (with_words g.words ∘ with_heads g.heads) st in
     let k = c.before.before.before.held-slot.ensures in
-    shows-whole (change_held g.n (chmod g.m) ∷ []) u _ s h ((c.before.before.set-mode.ensures (trim u) h.roomy.lawful).by_number g.n k.0 k.1) c.before.before.set-mode.auto.0 refl
+    shows_whole (change_held g.n (chmod g.m) ∷ []) u _ s h ((c.before.before.set-mode.ensures (trim u) h.roomy.lawful).by_number g.n k.0 k.1) c.before.before.set-mode.auto.0 refl
 
 pub chmod-held-spec : {M : Type 1} → statement M
 chmod-held-spec =

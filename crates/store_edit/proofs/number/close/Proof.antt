@@ -6,7 +6,7 @@ use native.Mathlib.Omega.{arith}
 use Rattle.model.specs.Prog.{close}
 use Rattle.layout.specs.Lent.{◌∘◌, with_words, with_records, with_heads, with_bytes}
 use Rattle.edit_room.specs.Extents.{trim}
-use Rattle.store_edit.proofs.Carrying.{shows-whole, shows-released, roomy_of}
+use Rattle.store_edit.proofs.Carrying.{shows_whole, shows-released, roomy_of}
 use Rattle.store_edit.proofs.Entering.{open_at}
 use borrow.Author.Rules.{rules}
 use Rattle.store_edit.proofs.number.close.Statement.{statement}
@@ -42,7 +42,7 @@ release-requires c κs = let q = c.before.before.before.before.before.before.bef
     let g = c.before.before.before.before.before.before.before.before.before.before.before.before.before.before.before.before.before.args in
     let u = (with_words g.words ∘ with_records g.records ∘ with_heads g.heads ∘ with_bytes g.bytes) q.0 in
     let x = c.before.before.before.before.before.before.before.before.close-number in
-    roomy_of (shows-whole (close g.n ∷ []) u _ q.1 q.2 (x.ensures (trim u) q.2.roomy.lawful) x.auto.1.1.0 refl).roomy
+    roomy_of (shows_whole (close g.n ∷ []) u _ q.1 q.2 (x.ensures (trim u) q.2.roomy.lawful) x.auto.1.1.0 refl).roomy
 
 -- src/number.rt:40:1
 same_length : tie.Need-same-length
@@ -62,7 +62,7 @@ returns c = λ st s h o.
     let g = c.before.before.before.before.before.before.before.before.before.before.before.before.before.before.before.before.before.before.before.before.args in
     let u = (with_words g.words ∘ with_records g.records ∘ with_heads g.heads ∘ with_bytes g.bytes) st in
     let x = c.before.before.before.before.before.before.before.before.before.before.before.close-number in
-    let k = shows-whole (close g.n ∷ []) u _ s h (x.ensures (trim u) h.roomy.lawful) x.auto.1.1.0 refl in
+    let k = shows_whole (close g.n ∷ []) u _ s h (x.ensures (trim u) h.roomy.lawful) x.auto.1.1.0 refl in
     shows-released k c.before.before.release.ensures
 
 pub close_spec : {M : Type 1} → statement M

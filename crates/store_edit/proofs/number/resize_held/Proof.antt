@@ -8,7 +8,7 @@ use Rattle.model.specs.Prog.{change_held}
 use Rattle.model.specs.Operations.Numbers.{resized}
 use Rattle.layout.specs.Lent.{◌∘◌, with_words, with_heads, with_bytes}
 use Rattle.edit_room.specs.Extents.{trim}
-use Rattle.store_edit.proofs.Carrying.{shows-whole}
+use Rattle.store_edit.proofs.Carrying.{shows_whole}
 use Rattle.store_edit.proofs.Entering.{same_change}
 use Rattle.store_edit.proofs.Fitting.{held_is, held-slot, resize-may}
 use borrow.Author.Rules.{rules}
@@ -61,7 +61,7 @@ returns c = λ st s b h m.
     let u = (with_words g.words ∘ with_heads g.heads ∘ with_bytes g.bytes) st in
     let k = c.before.before.before.before.before.held-slot.ensures in
     let x = same_change (ap (λ (t : Bytes). resize (resized g.size t)) (held-slot u s h g.n b m.has _ k.1)) (c.before.before.before.before.set-length.ensures (trim u) h.roomy.lawful (resize-may u s h g.n g.size b m _ k.1)) in
-    shows-whole (change_held g.n (resize (resized g.size b)) ∷ []) u _ s h (x.by_number g.n k.0 k.1) c.before.before.before.before.set-length.auto.0 refl
+    shows_whole (change_held g.n (resize (resized g.size b)) ∷ []) u _ s h (x.by_number g.n k.0 k.1) c.before.before.before.before.set-length.auto.0 refl
 
 pub resize-held-spec : {M : Type 1} → statement M
 resize-held-spec =

@@ -7,8 +7,8 @@ use Rattle.model.specs.Tree.{chmod}
 use Rattle.model.specs.Prog.{change}
 use Rattle.layout.specs.Lent.{◌∘◌, with_words, with_records, with_heads}
 use Rattle.edit_room.specs.Extents.{trim}
-use Rattle.store_edit.proofs.Carrying.{shows-whole}
-use Rattle.store_edit.proofs.Entering.{spot-slot, spot-has}
+use Rattle.store_edit.proofs.Carrying.{shows_whole}
+use Rattle.store_edit.proofs.Entering.{spot-slot, spot_has}
 use borrow.Author.Rules.{rules}
 use Rattle.store_edit.proofs.slot.chmod.Statement.{statement}
 use Rattle.store_edit.proofs.slot.chmod.Tie as tie
@@ -54,7 +54,7 @@ returns : tie.Need-returns
 returns c = λ st s p h a.
     let g = c.before.before.before.before.before.before.before.before.before.before.args in
     let u = (with_words g.words ∘ with_records g.records ∘ with_heads g.heads) st in
-    shows-whole (change p (chmod g.m) ∷ []) u _ s h ((c.before.before.set-mode.ensures (trim u) h.roomy.lawful).by_name p (spot-has u s h g.spot p a _ c.before.before.before.before.before.slot-of.ensures)) c.before.before.set-mode.auto.0 refl
+    shows_whole (change p (chmod g.m) ∷ []) u _ s h ((c.before.before.set-mode.ensures (trim u) h.roomy.lawful).by_name p (spot_has u s h g.spot p a _ c.before.before.before.before.before.slot-of.ensures)) c.before.before.set-mode.auto.0 refl
 
 pub chmod-spec : {M : Type 1} → statement M
 chmod-spec =

@@ -10,7 +10,7 @@ use Rattle.model.specs.Prog.{change}
 use Rattle.layout.specs.Lent.{◌∘◌, with_records, with_times}
 use Rattle.edit_room.specs.Extents.{trim}
 use Rattle.store_edit.proofs.Carrying.{shows_same}
-use Rattle.store_edit.proofs.Entering.{spot-slot, spot-times, spot-has, same_change}
+use Rattle.store_edit.proofs.Entering.{spot-slot, spot-times, spot_has, same_change}
 use borrow.Author.Rules.{rules}
 use Rattle.store_edit.proofs.slot.touch.Statement.{statement}
 use Rattle.store_edit.proofs.slot.touch.Tie as tie
@@ -46,7 +46,7 @@ returns c = λ st s p h a.
     let u = (with_records g.records ∘ with_times g.times) st in
     shows_same (change p (touch g.a g.t) ∷ []) u _ s h
     ((same_change (λ z. touch (to_z-of_z w64 g.a c.before.before.before.before.before.before.ranges.a z) (to_z-of_z w64 g.t c.before.before.before.before.before.before.ranges.t z))
-    (c.before.set-times.ensures (trim u) h.roomy.lawful (omega (arith, c.before.before.slot-of.ensures, spot-slot u s h g.spot p a)))).by_name p (spot-has u s h g.spot p a _ c.before.before.slot-of.ensures)) refl refl
+    (c.before.set-times.ensures (trim u) h.roomy.lawful (omega (arith, c.before.before.slot-of.ensures, spot-slot u s h g.spot p a)))).by_name p (spot_has u s h g.spot p a _ c.before.before.slot-of.ensures)) refl refl
 
 pub touch-spec : {M : Type 1} → statement M
 touch-spec =

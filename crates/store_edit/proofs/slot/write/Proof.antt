@@ -8,8 +8,8 @@ use Rattle.model.specs.Tree.{write}
 use Rattle.model.specs.Prog.{change}
 use Rattle.layout.specs.Lent.{◌∘◌, with_words, with_records, with_heads, with_times, with_bytes}
 use Rattle.edit_room.specs.Extents.{trim}
-use Rattle.store_edit.proofs.Carrying.{shows-whole, spots_same}
-use Rattle.store_edit.proofs.Entering.{spot-has, same_change}
+use Rattle.store_edit.proofs.Carrying.{shows_whole, spots_same}
+use Rattle.store_edit.proofs.Entering.{spot_has, same_change}
 use Rattle.store_edit.proofs.Fitting.{write-room}
 use borrow.Author.Rules.{rules}
 use Rattle.store_edit.proofs.slot.write.Statement.{statement}
@@ -70,9 +70,9 @@ returns c = λ st s p h a m.
     let k = c.before.before.before.before.before.before.before.before.before.before.slot-of.ensures in
     let r = write-room u s h g.spot p a m.is_file g.contents.now g.t m.fits _ k in
     let x = same_change (λ z. write g.contents.now (to_z-of_z w64 g.t c.before.before.before.before.before.before.before.before.before.before.before.before.before.before.before.before.before.ranges.t z)) (c.before.before.before.before.before.set-contents.ensures (trim u) h.roomy.lawful r) in
-    let y = x.by_name p (spot-has u s h g.spot p a _ k) in
+    let y = x.by_name p (spot_has u s h g.spot p a _ k) in
     record {
-      shows = shows-whole (change p (write g.contents.now g.t) ∷ []) u _ s h y c.before.before.before.before.before.set-contents.auto.0 refl;
+      shows = shows_whole (change p (write g.contents.now g.t) ∷ []) u _ s h y c.before.before.before.before.before.set-contents.auto.0 refl;
       spots = λ spot q b. spots_same u _ y.lawful x.rows refl refl spot q b;
     }
 

@@ -4,7 +4,7 @@ use mathlib.Core.Path.{sym, ◌∙◌}
 use native.Mathlib.Omega.{arith}
 use Rattle.layout.specs.Store.{lent}
 use Rattle.ask_find.proofs.Records.{slot-low}
-use Rattle.test_tried.proofs.Walked.{file_at}
+use Rattle.test_tried.proofs.Walked.{file_at_lem}
 use borrow.Author.Rules.{rules}
 use Rattle.test_tried.proofs.open.file_slot.Statement.{statement}
 use Rattle.test_tried.proofs.open.file_slot.Tie as tie
@@ -44,7 +44,7 @@ returns-2 c = λ h. absurd (omega (arith, h))
 returns-3 : tie.Need-returns-3
 returns-3 c = λ h. let b = c.before.before.before.before.before.before.before.before.before.before.before.before.before.before in let a = b.args in let st = lent a.words.now a.records.now a.heads.now a.times.now a.paths.now a.bytes.now in
     let w = c.before.before.before.before.before.before.before.walk in
-    file_at st b.requires.0 a.path.now w.result c.before.before.before.slot-of.result b.requires.1 (omega (arith, c.before.before.before.before.before.if1.false)) (w.ensures (omega (arith, c.before.before.before.before.before.if1.false))) c.before.before.before.slot-of.ensures (sym c.before.kind-of.ensures ∙ c.if2.false)
+    file_at_lem st b.requires.0 a.path.now w.result c.before.before.before.slot-of.result b.requires.1 (omega (arith, c.before.before.before.before.before.if1.false)) (w.ensures (omega (arith, c.before.before.before.before.before.if1.false))) c.before.before.before.slot-of.ensures (sym c.before.kind-of.ensures ∙ c.if2.false)
 
 pub file-slot-spec : {M : Type 1} → statement M
 file-slot-spec =

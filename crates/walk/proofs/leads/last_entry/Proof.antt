@@ -4,7 +4,7 @@ use lib.ListN.{take}
 use Rattle.layout.specs.Store.{Store}
 use Rattle.layout.specs.Lent.{◌∘◌, with_words, with_records, with_heads, with_bytes}
 use Rattle.walk.proofs.Rooted.{some_asked}
-use Rattle.walk.proofs.Leading.{dir-stands, dir-kind, last_found, last-missing, last_refused}
+use Rattle.walk.proofs.Leading.{dir-stands, dir-kind, last_found, last_missing, last_refused}
 use borrow.Author.Rules.{rules}
 use Rattle.walk.proofs.leads.last_entry.Statement.{statement}
 use Rattle.walk.proofs.leads.last_entry.Tie as tie
@@ -53,7 +53,7 @@ same-length-2 c = search rules
 
 returns-2 : tie.Need-returns-2
 returns-2 c = λ st s h w y. let b = c.before.before.before.before.before.before.before.before.before.before.before.before.before.before.before.before.before in let a = b.args in let u = store b st in let e = c.before.before.before.before.before.dir.given.1 in let f = c.before.before.before.before.before.before.before.before.before.find-directory.ensures st s h w y in
-    last-missing u s w a.hidden a.bound _ a.name.now _ _ _ _ _ _ e f c.before.before.before.child.result _ c.before.gap.given.1
+    last_missing u s w a.hidden a.bound _ a.name.now _ _ _ _ _ _ e f c.before.before.before.child.result _ c.before.gap.given.1
     (c.before.before.before.child.ensures u s h _ w (dir-stands u s w a.hidden a.bound _ a.name.now _ _ _ _ _ _ e f) y (dir-kind u s w a.hidden a.bound _ a.name.now _ _ _ _ _ _ e f))
 
 same-length-3 : tie.Need-same-length-3

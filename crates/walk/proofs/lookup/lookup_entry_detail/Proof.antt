@@ -8,7 +8,7 @@ use borrow.Author.Rules.{rules}
 use lib.ListN.{take}
 use Rattle.layout.specs.Store.{Store}
 use Rattle.walk.proofs.Passing.{four, some_link}
-use Rattle.walk.proofs.Chains.{walks-few, Chained, chain-start, chain-ended, chain_link, chain-loop, chain-long, chain-on}
+use Rattle.walk.proofs.Chains.{walks-few, Chained, chain-start, chain-ended, chain_link, chain-loop, chain-long, chain_on}
 use Rattle.walk.proofs.lookup.lookup_entry_detail.Statement.{statement}
 use Rattle.walk.proofs.lookup.lookup_entry_detail.Tie as tie
 
@@ -114,7 +114,7 @@ loop-less c = omega (arith, some_left c.before.before.before.before.before.befor
 
 loop-again : tie.Need-loop-preserved invariant-loop decreases-loop
 loop-again c = let s = c.before.before.before.before.before.before.before.before.before.before.before.before.before.before.before.before.before.before.before.before.before.before in let a = s.args in let l = c.before.before.before.before.before.before.before.before.before.before.before.before.before.before.before.before.loop in let y = c.before.before.before.before.before.before.before.before.before.before.before.before.before.before.lookup-entry-detail-no-follow in
-    chain-on (has s) a.hidden a.bound (take a.len a.out.now) a.out.now l.out l.left l.n l.links l.invariant _ y.result y.ensures _ _ c.before.before.before.before.before.before.before.before.before.end4.given.1
+    chain_on (has s) a.hidden a.bound (take a.len a.out.now) a.out.now l.out l.left l.n l.links l.invariant _ y.result y.ensures _ _ c.before.before.before.before.before.before.before.before.before.end4.given.1
     (some_left c.before.before.before.before.before.before.before) (omega (arith, (low c.before.before.before.before.before.before.before.before.before.before.before).1, l.invariant.long, s.requires.2)) _ c.before.before.before.before.before.behind-link.result c.before.before.before.before.before.behind-link.ensures s.requires.0 _ _ c.before.t.given.1 refl (omega (arith, l.invariant.long))
 
 pub lookup-entry-detail-spec : {M : Type 1} → statement M

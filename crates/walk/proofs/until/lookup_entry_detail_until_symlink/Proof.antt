@@ -16,8 +16,8 @@ use Rattle.layout.specs.Store.{Store, lent}
 use Rattle.layout.specs.Lent.{◌∘◌, with_words, with_records, with_heads, with_bytes}
 use Rattle.ask_entry.specs.Reads.{kind_from}
 use Rattle.store.specs.Shows.{Shows, Asked, LookIs, RootIs}
-use Rattle.walk.proofs.Reached.{Reached, kind-dir, kind-is, no-root, at-root, at-slash, at-file, at-link, at-gone, at_next, at-last-link, at_entry}
-use Rattle.walk.proofs.Rooted.{some_asked, never, root-there}
+use Rattle.walk.proofs.Reached.{Reached, kind-dir, kind-is, no_root, at-root, at-slash, at-file, at-link, at-gone, at_next, at-last-link, at_entry}
+use Rattle.walk.proofs.Rooted.{some_asked, never, root_there}
 use Rattle.walk.proofs.until.lookup_entry_detail_until_symlink.Statement.{statement}
 use Rattle.walk.proofs.until.lookup_entry_detail_until_symlink.Tie as tie
 
@@ -58,13 +58,13 @@ returns : tie.Need-returns invariant-loop decreases-loop
 returns c = λ st s x w y.
     let b = c.before.before.before.before.before.before.before.before.before in let a = b.args in let u = store b st in
     let m = subst (RootIs u s) c.before.g.given.1 (c.before.before.before.root.ensures u s x) in
-    no-root u s w a.hidden a.path.now _ m.1 (never u s a.hidden w y m.0 m.1)
+    no_root u s w a.hidden a.path.now _ m.1 (never u s a.hidden w y m.0 m.1)
 
 loop-holds : tie.Need-loop-init invariant-loop decreases-loop
 loop-holds c = λ st s w x y.
     let b = c.before.before.before.before.before.before.before.before.before in let a = b.args in let u = store b st in
     at-root u s w a.hidden a.path.now _ b.requires.1
-    (root-there u s x _ (subst (RootIs u s) c.before.s.given.1 (c.before.before.before.root.ensures u s x)) a.hidden w b.requires.2 y)
+    (root_there u s x _ (subst (RootIs u s) c.before.s.given.1 (c.before.before.before.root.ensures u s x)) a.hidden w b.requires.2 y)
 
 kind-requires : tie.Need-kind-requires invariant-loop decreases-loop
 kind-requires c κs = search rules
