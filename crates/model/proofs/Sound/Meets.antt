@@ -23,7 +23,7 @@ abbrev pub Says : {A : Type 0} → (A → Type 0) → Prog A → World → Type 
 Says Q p w = Meets (λ a v. (v ≡ w) × Q a) p w
 
 -- a run goes on where the first ends
-pub bind : {A B : Type 0} {p : Prog A} {f : A → Prog B} {w : World} {Q : A → World → Type 0} {R : B → World → Type 0}
+pub bind : {A B : Type 0} {Q : A → World → Type 0} {R : B → World → Type 0} {p : Prog A} {f : A → Prog B} {w : World}
     → Meets Q p w → ((a : A) (v : World) → Q a v → Meets R (f a) v) → Meets R (p >>= f) w
 unfolding ◌>>=◌
 bind (gives h) k = k _ _ h
@@ -32,7 +32,7 @@ bind (asked h) k = asked (bind h k)
 bind (edited a h) k = edited a (bind h k)
 
 -- what follows from Q may be said instead
-pub weaken : {A : Type 0} {p : Prog A} {w : World} {Q R : A → World → Type 0} → Meets Q p w → ((a : A) (v : World) → Q a v → R a v) → Meets R p w
+pub weaken : {A : Type 0} {Q R : A → World → Type 0} {p : Prog A} {w : World} → Meets Q p w → ((a : A) (v : World) → Q a v → R a v) → Meets R p w
 weaken (gives h) k = gives (k _ _ h)
 weaken stops k = stops
 weaken (asked h) k = asked (weaken h k)
