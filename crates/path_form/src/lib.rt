@@ -1,3 +1,4 @@
+#![tactic(auto)]
 // normalize_path and to_absolute_path, into a lent buffer (refusal 6); the path behind a link, and the last name.
 ghost use Rattle.std.specs.Prelude.{◌≡◌, ◌≤◌, length};
 ghost use Rattle.path.specs.Answer.{Forms};
