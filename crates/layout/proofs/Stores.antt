@@ -65,16 +65,16 @@ both_alike l a b c d h x =
     )
 
 -- a job
-holds-again : (j : List Lent) (a b c d : Store) → Holds a b → Runs a b j c d → Holds c d
-holds-again _ a b _ _ h start = h
-holds-again _ a b _ _ h (next {j} {c} {d} {e} {f} l r x) = (both_alike l c d e f (holds-again j a b c d h r) x).1
+holds-again : (a b : Store) → Holds a b → (j : List Lent) (c d : Store) → Runs a b j c d → Holds c d
+holds-again a b h _ _ _ start = h
+holds-again a b h _ _ _ (next {j} {c} {d} {e} {f} l r x) = (both_alike l c d e f (holds-again a b h j c d r) x).1
 
 -- Demand 3: two stores that refusal 1 lets pass, with the same current directory, umask and open files, the second with everything in
 -- the first tree and no less free space; any job on both, and any call after it, none of them left out. Then that call answers alike in
 -- both, and all that held at the beginning holds again after it.
 pub demand-3_of_stores : (a b : Store) → Holds a b → (j : List Lent) (c d : Store) → Runs a b j c d → (l : Lent) (e f : Left) → Both l c d e f
     → SameEnds e f × Holds e.store f.store
-demand-3_of_stores a b h j c d r l e f x = both_alike l c d e f (holds-again j a b c d h r) x
+demand-3_of_stores a b h j c d r l e f x = both_alike l c d e f (holds-again a b h j c d r) x
 
 -- ---- its hypotheses can be met
 

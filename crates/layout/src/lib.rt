@@ -1,3 +1,4 @@
+#![tactic(auto)]
 // The numbers of the layout, as specs/Numbers.antt has them, and the fields of the words of a store.
 ghost use Rattle.std.specs.Prelude.{◌≡◌, ◌<◌};
 ghost use Rattle.layout.specs.Numbers.{depths, name_lengths, slot_numbers, lengths, kinds};
