@@ -22,9 +22,10 @@ pub fn insert_entry(
     t: i64,
     text: &[u8],
 )
-    requires { SomeLawful (with_words words ∘ with_records records ∘ with_heads heads ∘ with_times times ∘ with_bytes bytes)
+    requires { SomeLawful (with_words words.old ∘ with_records records.old ∘ with_heads heads.old ∘ with_times times.old ∘ with_bytes bytes.old)
         (λ st. (q : Path) × MayInsert st k depth q name.now kind text.now) }
-    ensures { OnLawful (on_words words & on_records records & on_heads heads & on_times times & on_bytes bytes)
+    ensures { OnLawful (on_words words.old words.new & on_records records.old records.new & on_heads heads.old heads.new
+        & on_times times.old times.new & on_bytes bytes.old bytes.new)
         (λ st u. Inserted st u k depth name.now kind mode t text.now) }
 {
     let count = words[COUNT_AT] as usize;
@@ -45,8 +46,10 @@ pub fn insert_root(
     mode: u32,
     t: i64,
 )
-    requires { SomeLawful (with_words words ∘ with_records records ∘ with_heads heads ∘ with_times times ∘ with_bytes bytes) MayRoot }
-    ensures { OnLawful (on_words words & on_records records & on_heads heads & on_times times & on_bytes bytes) (λ st u. Rooted st u mode t) }
+    requires { SomeLawful (with_words words.old ∘ with_records records.old ∘ with_heads heads.old ∘ with_times times.old
+        ∘ with_bytes bytes.old) MayRoot }
+    ensures { OnLawful (on_words words.old words.new & on_records records.old records.new & on_heads heads.old heads.new
+        & on_times times.old times.new & on_bytes bytes.old bytes.new) (λ st u. Rooted st u mode t) }
 {
     let count = words[COUNT_AT] as usize;
     let nothing = [0u8; 1];

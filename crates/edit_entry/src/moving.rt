@@ -3,8 +3,8 @@ ghost use Rattle.std.specs.Prelude.{◌+◌, ◌≤◌, ◌<◌, length, take, g
 ghost use Rattle.layout.specs.Numbers.{most_entries, name_lengths, slot_numbers};
 ghost use Rattle.layout.specs.Fields.{nlen_of, slot_of};
 ghost use Rattle.layout.specs.Rows.{name_total};
-ghost use Rattle.layout.specs.Lent.{◌∘◌, with_words, with_records, with_bytes, SomeLawful};
-ghost use Rattle.layout.specs.Lent.{◌&◌, on_words, on_records, on_bytes, OnLawful};
+ghost use Rattle.layout.specs.Lent.{◌∘◌, with_words, with_records, with_bytes, SomeLawful, still};
+ghost use Rattle.layout.specs.Lent.{◌&◌, on_records, on_bytes, OnLawful};
 ghost use Rattle.edit_entry.specs.Movement.{Movable, MovedTo};
 ghost use Rattle.edit_entry.specs.Renaming.{Renamed};
 
@@ -35,8 +35,9 @@ pub fn move_entry(
     depth: usize,
     name: &[u8],
 )
-    requires { SomeLawful (with_words words ∘ with_records records ∘ with_bytes bytes) (λ st. Movable st i e p depth name.now) }
-    ensures { OnLawful (on_words words & on_records records & on_bytes bytes) (λ st u. MovedTo st u i e p depth name.now) }
+    requires { SomeLawful (with_words words.now ∘ with_records records.old ∘ with_bytes bytes.old) (λ st. Movable st i e p depth name.now) }
+    ensures { OnLawful (still (with_words words.now) & on_records records.old records.new
+        & on_bytes bytes.old bytes.new) (λ st u. MovedTo st u i e p depth name.now) }
 {
     let count = words[COUNT_AT] as usize;
     let old = records[i] % DEPTHS;

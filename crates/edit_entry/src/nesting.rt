@@ -19,9 +19,10 @@ pub fn nest_entry(
     mode: u32,
     t: i64,
 )
-    requires { SomeLawful (with_words words ∘ with_records records ∘ with_heads heads ∘ with_times times ∘ with_bytes bytes)
+    requires { SomeLawful (with_words words.old ∘ with_records records.old ∘ with_heads heads.old ∘ with_times times.old ∘ with_bytes bytes.old)
         (λ st. MayNest st i e name.now) }
-    ensures { OnLawful (on_words words & on_records records & on_heads heads & on_times times & on_bytes bytes)
+    ensures { OnLawful (on_words words.old words.new & on_records records.old records.new & on_heads heads.old heads.new
+        & on_times times.old times.new & on_bytes bytes.old bytes.new)
         (λ st u. Nested st u i e name.now mode t) }
 {
     let count = words[COUNT_AT] as usize;

@@ -47,8 +47,9 @@ pub fn remove_entry(
     i: usize,
     e: usize,
 )
-    requires { SomeLawful (with_words words ∘ with_records records ∘ with_heads heads ∘ with_bytes bytes) (λ st. Block st i e) }
-    ensures { OnLawful (on_words words & on_records records & on_heads heads & on_bytes bytes) (λ st u. Removed st u i e) }
+    requires { SomeLawful (with_words words.old ∘ with_records records.old ∘ with_heads heads.old ∘ with_bytes bytes.old) (λ st. Block st i e) }
+    ensures { OnLawful (on_words words.old words.new & on_records records.old records.new & on_heads heads.old heads.new
+        & on_bytes bytes.old bytes.new) (λ st u. Removed st u i e) }
 {
     let count = words[COUNT_AT] as usize;
     let s = layout::slot_of(records[i]);

@@ -1,10 +1,10 @@
 -- How many slots a store has so far (docs/LAYOUT.md, "words", word 101): one more, and no more than are in use.
 -- Assumes nothing.
-use Rattle.std.specs.Prelude.{◌≡◌, ℕ, ◌-◌, ◌≤◌, ◌<◌, length, take, get_or}
+use Rattle.std.specs.Prelude.{◌≡◌, List, ℕ, ◌-◌, ◌≤◌, ◌<◌, length, take, get_or}
 use Rattle.layout.specs.Numbers.{extent_at}
 use Rattle.layout.specs.Store.{Store, most, count, extent, slots_for, state}
 use Rattle.layout.specs.Lawful.{Lawful}
-use Rattle.layout.specs.Lent.{Slice, Slices, ◌∘◌, ◌&◌, with_words, with_heads, on_words, on_heads, On}
+use Rattle.layout.specs.Lent.{◌∘◌, ◌&◌, with_words, with_heads, on_words, on_heads, On}
 use Rattle.slots.specs.Free.{HasFree}
 
 -- the store with the words of the slots that it has so far, and none behind them
@@ -34,9 +34,9 @@ pub record Released (st st' : Store) : Type 0 where
   pub tight : 0 < extent st' → get_or st'.heads (extent st' - 1) 0 ≡ 0 → ⊥
 
 -- some store has the words and the words of the slots, with room
-abbrev pub SomeRoomy : Slice ℕ → Slice ℕ → Type 0
+abbrev pub SomeRoomy : List ℕ → List ℕ → Type 0
 SomeRoomy words heads = (st : Store) × Roomy ((with_words words ∘ with_heads heads) st)
 
 -- of every store that has them, with room: P holds of it before and after
-abbrev pub OnSlots : Slices ℕ → Slices ℕ → (Store → Store → Type 0) → Type 0
-OnSlots words heads P = On (on_words words & on_heads heads) (λ st u. Roomy st → P st u)
+abbrev pub OnSlots : (words words' heads heads' : List ℕ) → (Store → Store → Type 0) → Type 0
+OnSlots words words' heads heads' P = On (on_words words words' & on_heads heads heads') (λ st u. Roomy st → P st u)

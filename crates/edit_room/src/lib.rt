@@ -10,8 +10,8 @@ const BEYOND: u64 = FILE_NUMBERS as u64;
 
 // One slot more, where the limits allow it: it is free. Where they do not, a slot before it is free while an entry may be added.
 pub fn reserve(words: &mut [u64], heads: &mut [u64])
-    requires { SomeRoomy words heads }
-    ensures { OnSlots words heads Reserved }
+    requires { SomeRoomy words.old heads.old }
+    ensures { OnSlots words.old words.new heads.old heads.new Reserved }
 {
     let n = words[EXTENT_AT];
     if words[MOST_AT] + BEYOND <= n {
@@ -39,8 +39,8 @@ fn used_end(heads: &[u64]) -> usize
 
 // The free slots at the end are given up.
 pub fn release(words: &mut [u64], heads: &[u64])
-    requires { SomeRoomy words heads }
-    ensures { OnSlots words heads Released }
+    requires { SomeRoomy words.old heads.now }
+    ensures { OnSlots words.old words.new heads.now heads.now Released }
 {
     let n = words[EXTENT_AT] as usize;
     words[EXTENT_AT] = used_end(&heads[..n]) as u64;

@@ -22,7 +22,7 @@ fn put_mode(heads: &mut [u64], slot: usize, m: u32)
 // The mode of a directory, a file or a link.
 pub fn set_mode(heads: &mut [u64], slot: usize, m: u32)
     requires { slot < length heads.old }
-    ensures { OnLawful (on_heads heads) (λ st u. Changes (chmod m) st u slot) }
+    ensures { OnLawful (on_heads heads.old heads.new) (λ st u. Changes (chmod m) st u slot) }
 {
     put_mode(heads, slot, m);
 }
@@ -30,7 +30,7 @@ pub fn set_mode(heads: &mut [u64], slot: usize, m: u32)
 // The first time for accessed, changed and created, the second for modified.
 pub fn set_times(times: &mut [i64], slot: usize, a: i64, t: i64)
     requires { 4 * slot + 3 < length times.old }
-    ensures { OnLawful (on_times times) (λ st u. slot < length st.heads → Changes (touch a t) st u slot) }
+    ensures { OnLawful (on_times times.old times.new) (λ st u. slot < length st.heads → Changes (touch a t) st u slot) }
 {
     slots::put_times(times, slot, a, t);
 }
@@ -48,7 +48,7 @@ fn put_if(times: &mut [i64], i: usize, ok: bool, t: i64)
 // The times accessed and modified, each if it is given.
 pub fn set_some_times(times: &mut [i64], slot: usize, access: bool, a: i64, modify: bool, t: i64)
     requires { 4 * slot + 3 < length times.old }
-    ensures { OnLawful (on_times times) (λ st u. slot < length st.heads
+    ensures { OnLawful (on_times times.old times.new) (λ st u. slot < length st.heads
         → Changes (touch_some (given_if access a) (given_if modify t)) st u slot) }
 {
     put_if(times, 4 * slot, access, a);
@@ -64,8 +64,9 @@ pub fn set_contents(
     text: &[u8],
     t: i64,
 )
-    requires { SomeLawful (with_heads heads ∘ with_times times ∘ with_bytes bytes) (λ st. HasRoom st slot (length text.now)) }
-    ensures { OnLawful (on_heads heads & on_times times & on_bytes bytes) (λ st u. HasRoom st slot (length text.now)
+    requires { SomeLawful (with_heads heads.old ∘ with_times times.old ∘ with_bytes bytes.old) (λ st. HasRoom st slot (length text.now)) }
+    ensures { OnLawful (on_heads heads.old heads.new & on_times times.old times.new
+        & on_bytes bytes.old bytes.new) (λ st u. HasRoom st slot (length text.now)
         → Changes (write text.now t) st u slot) }
 {
     slots::write(heads, bytes, slot, text);
@@ -74,8 +75,9 @@ pub fn set_contents(
 
 // A file cut to n bytes, or extended by zeros.
 pub fn set_length(heads: &mut [u64], bytes: &mut [u8], slot: usize, n: usize)
-    requires { SomeLawful (with_heads heads ∘ with_bytes bytes) (λ st. HasRoom st slot n) }
-    ensures { OnLawful (on_heads heads & on_bytes bytes) (λ st u. HasRoom st slot n → Changes (resize (fitted n (bytes_at st slot))) st u slot) }
+    requires { SomeLawful (with_heads heads.old ∘ with_bytes bytes.old) (λ st. HasRoom st slot n) }
+    ensures { OnLawful (on_heads heads.old heads.new
+        & on_bytes bytes.old bytes.new) (λ st u. HasRoom st slot n → Changes (resize (fitted n (bytes_at st slot))) st u slot) }
 {
     slots::resize(heads, bytes, slot, n);
 }

@@ -4,8 +4,8 @@ ghost use Rattle.path.specs.Path.{names};
 ghost use Rattle.model.specs.Prog.{umask, seek, go, opens, close};
 ghost use Rattle.layout.specs.Numbers.{file_numbers, most_slots, word_count, paths_bytes};
 ghost use Rattle.layout.specs.Lawful.{cell_ok};
-ghost use Rattle.layout.specs.Lent.{◌∘◌, with_words, with_records, with_heads, with_bytes, SomeLawful};
-ghost use Rattle.layout.specs.Lent.{◌&◌, on_words, on_records, on_heads, on_paths, on_bytes, OnLawful, Edits};
+ghost use Rattle.layout.specs.Lent.{◌∘◌, with_words, with_records, with_heads, with_bytes, SomeLawful, still};
+ghost use Rattle.layout.specs.Lent.{◌&◌, on_words, on_heads, on_paths, on_bytes, OnLawful, Edits};
 ghost use Rattle.edit_state.specs.Numbers.{IsOpen, MayOpen};
 
 use layout::{
@@ -16,7 +16,7 @@ use slots::marks::{is_held, is_used};
 // Sets the umask.
 pub fn set_umask(words: &mut [u64], m: u32)
     requires { length words.old ≡ word_count }
-    ensures { OnLawful (on_words words) (Edits (umask m)) }
+    ensures { OnLawful (on_words words.old words.new) (Edits (umask m)) }
 {
     words[MASK_AT] = m as u64;
 }
@@ -24,7 +24,7 @@ pub fn set_umask(words: &mut [u64], m: u32)
 // Puts a number at the position k.
 pub fn set_position(words: &mut [u64], n: usize, k: u64)
     requires { (length words.old ≡ word_count) × (n < file_numbers) }
-    ensures { OnLawful (on_words words) (Edits (seek n k)) }
+    ensures { OnLawful (on_words words.old words.new) (Edits (seek n k)) }
 {
     words[POSITION_AT + NUMBER_WORDS * n] = k;
 }
@@ -32,7 +32,7 @@ pub fn set_position(words: &mut [u64], n: usize, k: u64)
 // Makes the path the current directory: its length, and its bytes in the first cell.
 pub fn set_current(words: &mut [u64], paths: &mut [u8], path: &[u8])
     requires { (length words.old ≡ word_count) × (length paths.old ≡ paths_bytes) × T (cell_ok path.now) }
-    ensures { OnLawful (on_words words & on_paths paths) (Edits (go (names path.now))) }
+    ensures { OnLawful (on_words words.old words.new & on_paths paths.old paths.new) (Edits (go (names path.now))) }
 {
     words[HERE_AT] = path.len() as u64;
     blocks::copy_into(paths, 0, path);
@@ -49,7 +49,7 @@ pub fn open_number(
 )
     requires { (length words.old ≡ word_count) × (length paths.old ≡ paths_bytes) × T (cell_ok path.now)
         × (n < file_numbers) × (slot < most_slots) }
-    ensures { OnLawful (on_words words & on_paths paths) (λ st u. MayOpen st n (names path.now) slot
+    ensures { OnLawful (on_words words.old words.new & on_paths paths.old paths.new) (λ st u. MayOpen st n (names path.now) slot
         → Edits (opens n (names path.now) pos) st u) }
 {
     words[HOLDER_AT + NUMBER_WORDS * n] = slot as u64 + 1;
@@ -66,8 +66,9 @@ pub fn close_number(
     bytes: &mut [u8],
     n: usize,
 )
-    requires { SomeLawful (with_words words ∘ with_records records ∘ with_heads heads ∘ with_bytes bytes) (λ st. IsOpen st n) }
-    ensures { OnLawful (on_words words & on_records records & on_heads heads & on_bytes bytes) (Edits (close n)) }
+    requires { SomeLawful (with_words words.old ∘ with_records records.now ∘ with_heads heads.old ∘ with_bytes bytes.old) (λ st. IsOpen st n) }
+    ensures { OnLawful (on_words words.old words.new & still (with_records records.now) & on_heads heads.old heads.new
+        & on_bytes bytes.old bytes.new) (Edits (close n)) }
 {
     let h = words[HOLDER_AT + NUMBER_WORDS * n];
     words[HOLDER_AT + NUMBER_WORDS * n] = 0;

@@ -1,6 +1,6 @@
 // Set up, and what is read back beside the calls of a job.
 ghost use Rattle.std.specs.Prelude.{◌≡◌};
-ghost use Rattle.layout.specs.Lent.{before, after};
+ghost use Rattle.layout.specs.Lent.{lends};
 ghost use Rattle.setup.specs.SetUp.{IsSetUp};
 ghost use Rattle.op.specs.Telling.{Told, HereIs, UsageIs, in_slot, NumberIs};
 
@@ -21,7 +21,8 @@ pub extern "C" fn jobtree_set_up(
     most: u64,
     room: u64,
 ) -> u32
-    ensures { IsSetUp most room (before words records heads times paths bytes) (after words records heads times paths bytes) result }
+    ensures { IsSetUp most room (lends words.old records.old heads.old times.old paths.old bytes.old)
+        (lends words.new records.new heads.new times.new paths.new bytes.new) result }
 {
     set_up(words, records, heads, times, paths, bytes, most, room)
 }
@@ -38,7 +39,7 @@ pub extern "C" fn jobtree_current_dir(
     out: &mut [u8],
     number: &mut u64,
 ) -> u32
-    ensures { Told (before words records heads times paths bytes)
+    ensures { Told (lends words.now records.now heads.now times.now paths.now bytes.now)
         (HereIs out.old number.old out.new number.new result)
         ((out.new ≡ out.old) × (number.new ≡ number.old)) result }
 {
@@ -59,7 +60,7 @@ pub extern "C" fn jobtree_usage(
     bytes: &[u8],
     numbers: &mut [u64],
 ) -> u32
-    ensures { Told (before words records heads times paths bytes) (UsageIs numbers.old numbers.new result)
+    ensures { Told (lends words.now records.now heads.now times.now paths.now bytes.now) (UsageIs numbers.old numbers.new result)
         (numbers.new ≡ numbers.old) result }
 {
     if !lawful::store_ok(words, records, heads, times, paths, bytes) {
@@ -89,7 +90,7 @@ pub extern "C" fn jobtree_number(
     position: &mut u64,
     size: &mut u64,
 ) -> u32
-    ensures { Told (before words records heads times paths bytes)
+    ensures { Told (lends words.now records.now heads.now times.now paths.now bytes.now)
         (NumberIs n (in_slot out.old position.old size.old)
         (in_slot out.new position.new size.new) result)
         (in_slot out.new position.new size.new

@@ -2,7 +2,7 @@
 // the call itself, which then clears both working buffers.
 ghost use Rattle.std.specs.Prelude.{◌/◌, length};
 ghost use Rattle.model.specs.Calls.Calling as op;
-ghost use Rattle.layout.specs.Lent.{before, after};
+ghost use Rattle.layout.specs.Lent.{lends};
 ghost use Rattle.layout.specs.Answers.{Answers};
 ghost use Rattle.op.specs.Lending.{call_with, in_bytes, in_rows, in_both};
 ghost use Rattle.op.specs.Doing.{Done};
@@ -31,7 +31,7 @@ fn metadata(
     ensures { Done
         (call_with (op.metadata path.now (length rows.old / 7))
         (in_rows rows.old links.old) first.old second.now)
-        (before words records heads times paths bytes) (after words records heads times paths bytes)
+        (lends words.now records.now heads.now times.now paths.now bytes.now) (lends words.now records.now heads.now times.now paths.now bytes.now)
         (in_rows rows.new links.new) result }
 {
     match begin(
@@ -83,7 +83,7 @@ pub extern "C" fn jobtree_metadata(
     ensures { Answers
         (call_with (op.metadata path.now (length rows.old / 7))
         (in_rows rows.old links.old) first.old second.old)
-        (before words records heads times paths bytes) (after words records heads times paths bytes)
+        (lends words.now records.now heads.now times.now paths.now bytes.now) (lends words.now records.now heads.now times.now paths.now bytes.now)
         (in_rows rows.new links.new)
         first.new second.new result }
 {
@@ -112,7 +112,7 @@ fn symlink_metadata(
     ensures { Done
         (call_with (op.symlink_metadata path.now (length rows.old / 7))
         (in_rows rows.old links.old) first.old second.now)
-        (before words records heads times paths bytes) (after words records heads times paths bytes)
+        (lends words.now records.now heads.now times.now paths.now bytes.now) (lends words.now records.now heads.now times.now paths.now bytes.now)
         (in_rows rows.new links.new) result }
 {
     match begin(
@@ -164,7 +164,7 @@ pub extern "C" fn jobtree_symlink_metadata(
     ensures { Answers
         (call_with (op.symlink_metadata path.now (length rows.old / 7))
         (in_rows rows.old links.old) first.old second.old)
-        (before words records heads times paths bytes) (after words records heads times paths bytes)
+        (lends words.now records.now heads.now times.now paths.now bytes.now) (lends words.now records.now heads.now times.now paths.now bytes.now)
         (in_rows rows.new links.new)
         first.new second.new result }
 {
@@ -194,7 +194,7 @@ fn read_link(
     ensures { Done
         (call_with (op.read_link path.now (length out.old))
         (in_bytes out.old number.old links.old) first.old second.now)
-        (before words records heads times paths bytes) (after words records heads times paths bytes)
+        (lends words.now records.now heads.now times.now paths.now bytes.now) (lends words.now records.now heads.now times.now paths.now bytes.now)
         (in_bytes out.new number.new links.new) result }
 {
     match begin(
@@ -247,7 +247,7 @@ pub extern "C" fn jobtree_read_link(
     ensures { Answers
         (call_with (op.read_link path.now (length out.old))
         (in_bytes out.old number.old links.old) first.old second.old)
-        (before words records heads times paths bytes) (after words records heads times paths bytes)
+        (lends words.now records.now heads.now times.now paths.now bytes.now) (lends words.now records.now heads.now times.now paths.now bytes.now)
         (in_bytes out.new number.new links.new)
         first.new second.new result }
 {
@@ -277,7 +277,7 @@ fn read(
     ensures { Done
         (call_with (op.read_file path.now (length out.old))
         (in_bytes out.old number.old links.old) first.old second.now)
-        (before words records heads times paths bytes) (after words records heads times paths bytes)
+        (lends words.now records.now heads.now times.now paths.now bytes.now) (lends words.now records.now heads.now times.now paths.now bytes.now)
         (in_bytes out.new number.new links.new) result }
 {
     match begin(
@@ -330,7 +330,7 @@ pub extern "C" fn jobtree_read(
     ensures { Answers
         (call_with (op.read_file path.now (length out.old))
         (in_bytes out.old number.old links.old) first.old second.old)
-        (before words records heads times paths bytes) (after words records heads times paths bytes)
+        (lends words.now records.now heads.now times.now paths.now bytes.now) (lends words.now records.now heads.now times.now paths.now bytes.now)
         (in_bytes out.new number.new links.new)
         first.new second.new result }
 {
@@ -360,7 +360,7 @@ fn canonicalize(
     ensures { Done
         (call_with (op.canonicalize path.now (length out.old))
         (in_bytes out.old number.old links.old) first.old second.now)
-        (before words records heads times paths bytes) (after words records heads times paths bytes)
+        (lends words.now records.now heads.now times.now paths.now bytes.now) (lends words.now records.now heads.now times.now paths.now bytes.now)
         (in_bytes out.new number.new links.new) result }
 {
     match begin(
@@ -413,7 +413,7 @@ pub extern "C" fn jobtree_canonicalize(
     ensures { Answers
         (call_with (op.canonicalize path.now (length out.old))
         (in_bytes out.old number.old links.old) first.old second.old)
-        (before words records heads times paths bytes) (after words records heads times paths bytes)
+        (lends words.now records.now heads.now times.now paths.now bytes.now) (lends words.now records.now heads.now times.now paths.now bytes.now)
         (in_bytes out.new number.new links.new)
         first.new second.new result }
 {
@@ -444,7 +444,7 @@ fn list(
     ensures { Done
         (call_with (op.list path.now (length out.old) (length rows.old / 7))
         (in_both out.old rows.old number.old links.old) first.old second.now)
-        (before words records heads times paths bytes) (after words records heads times paths bytes)
+        (lends words.now records.now heads.now times.now paths.now bytes.now) (lends words.now records.now heads.now times.now paths.now bytes.now)
         (in_both out.new rows.new number.new links.new) result }
 {
     match begin(
@@ -500,7 +500,7 @@ pub extern "C" fn jobtree_list(
     ensures { Answers
         (call_with (op.list path.now (length out.old) (length rows.old / 7))
         (in_both out.old rows.old number.old links.old) first.old second.old)
-        (before words records heads times paths bytes) (after words records heads times paths bytes)
+        (lends words.now records.now heads.now times.now paths.now bytes.now) (lends words.now records.now heads.now times.now paths.now bytes.now)
         (in_both out.new rows.new number.new links.new)
         first.new second.new result }
 {

@@ -1,7 +1,7 @@
 // The calls by file number. But for metadata they walk no path, and are lent no working buffers.
 ghost use Rattle.std.specs.Prelude.{[], ◌/◌, length};
 ghost use Rattle.model.specs.Calls.Calling as op;
-ghost use Rattle.layout.specs.Lent.{before, after};
+ghost use Rattle.layout.specs.Lent.{lends};
 ghost use Rattle.layout.specs.Answers.{Answers};
 ghost use Rattle.op.specs.Lending.{call_with, in_bytes, in_rows, in_number, in_nothing};
 ghost use Rattle.op.specs.Doing.{Done};
@@ -28,7 +28,7 @@ pub extern "C" fn jobtree_close(
     ensures { Answers
         (call_with (op.close_number n)
         (in_nothing) [] [])
-        (before words records heads times paths bytes) (after words records heads times paths bytes)
+        (lends words.old records.now heads.old times.now paths.now bytes.old) (lends words.new records.now heads.new times.now paths.now bytes.new)
         (in_nothing) [] [] result }
 {
     let r = ready(
@@ -74,7 +74,7 @@ pub extern "C" fn jobtree_read_number(
     ensures { Answers
         (call_with (op.read_number n (length out.old))
         (in_bytes out.old number.old 0) [] [])
-        (before words records heads times paths bytes) (after words records heads times paths bytes)
+        (lends words.old records.now heads.now times.now paths.now bytes.now) (lends words.new records.now heads.now times.now paths.now bytes.now)
         (in_bytes out.new number.new 0) [] [] result }
 {
     let r = ready(
@@ -122,7 +122,7 @@ pub extern "C" fn jobtree_seek(
     ensures { Answers
         (call_with (op.seek_number n origin offset)
         (in_number number.old) [] [])
-        (before words records heads times paths bytes) (after words records heads times paths bytes)
+        (lends words.old records.now heads.now times.now paths.now bytes.now) (lends words.new records.now heads.now times.now paths.now bytes.now)
         (in_number number.new) [] [] result }
 {
     let r = ready(
@@ -169,7 +169,7 @@ pub extern "C" fn jobtree_set_length(
     ensures { Answers
         (call_with (op.set_length n size)
         (in_nothing) [] [])
-        (before words records heads times paths bytes) (after words records heads times paths bytes)
+        (lends words.now records.now heads.old times.now paths.now bytes.old) (lends words.now records.now heads.new times.now paths.now bytes.new)
         (in_nothing) [] [] result }
 {
     let r = ready(
@@ -215,7 +215,7 @@ pub extern "C" fn jobtree_set_mode_number(
     ensures { Answers
         (call_with (op.set_mode_number n mode)
         (in_nothing) [] [])
-        (before words records heads times paths bytes) (after words records heads times paths bytes)
+        (lends words.now records.now heads.old times.now paths.now bytes.now) (lends words.now records.now heads.new times.now paths.now bytes.now)
         (in_nothing) [] [] result }
 {
     let r = ready(
@@ -255,7 +255,7 @@ pub extern "C" fn jobtree_set_times_number(
     ensures { Answers
         (call_with (op.set_times_number n flags accessed modified)
         (in_nothing) [] [])
-        (before words records heads times paths bytes) (after words records heads times paths bytes)
+        (lends words.now records.now heads.now times.old paths.now bytes.now) (lends words.now records.now heads.now times.new paths.now bytes.now)
         (in_nothing) [] [] result }
 {
     let r = ready(
@@ -304,7 +304,7 @@ fn metadata_number(
     ensures { Done
         (call_with (op.metadata_number n (length rows.old / 7))
         (in_rows rows.old links.old) first.old second.now)
-        (before words records heads times paths bytes) (after words records heads times paths bytes)
+        (lends words.now records.now heads.now times.now paths.now bytes.now) (lends words.now records.now heads.now times.now paths.now bytes.now)
         (in_rows rows.new links.new) result }
 {
     let work = Work::Lent(first.len(), second.len());
@@ -357,7 +357,7 @@ pub extern "C" fn jobtree_metadata_number(
     ensures { Answers
         (call_with (op.metadata_number n (length rows.old / 7))
         (in_rows rows.old links.old) first.old second.old)
-        (before words records heads times paths bytes) (after words records heads times paths bytes)
+        (lends words.now records.now heads.now times.now paths.now bytes.now) (lends words.now records.now heads.now times.now paths.now bytes.now)
         (in_rows rows.new links.new)
         first.new second.new result }
 {

@@ -1,7 +1,7 @@
 // The calls that set the umask and the current directory.
 ghost use Rattle.std.specs.Prelude.{[]};
 ghost use Rattle.model.specs.Calls.Calling as op;
-ghost use Rattle.layout.specs.Lent.{before, after};
+ghost use Rattle.layout.specs.Lent.{lends};
 ghost use Rattle.layout.specs.Answers.{Answers};
 ghost use Rattle.op.specs.Lending.{call_with, in_links, in_number};
 ghost use Rattle.op.specs.Doing.{Done};
@@ -27,7 +27,7 @@ pub extern "C" fn jobtree_set_umask(
     ensures { Answers
         (call_with (op.set_umask mask)
         (in_number number.old) [] [])
-        (before words records heads times paths bytes) (after words records heads times paths bytes)
+        (lends words.old records.now heads.now times.now paths.now bytes.now) (lends words.new records.now heads.now times.now paths.now bytes.now)
         (in_number number.new) [] [] result }
 {
     let r = ready(
@@ -64,7 +64,7 @@ fn set_current_dir(
     ensures { Done
         (call_with (op.set_current_dir path.now)
         (in_links links.old) first.old second.now)
-        (before words records heads times paths bytes) (after words records heads times paths bytes)
+        (lends words.old records.now heads.now times.now paths.old bytes.now) (lends words.new records.now heads.now times.now paths.new bytes.now)
         (in_links links.new) result }
 {
     match begin(
@@ -114,7 +114,7 @@ pub extern "C" fn jobtree_set_current_dir(
     ensures { Answers
         (call_with (op.set_current_dir path.now)
         (in_links links.old) first.old second.old)
-        (before words records heads times paths bytes) (after words records heads times paths bytes)
+        (lends words.old records.now heads.now times.now paths.old bytes.now) (lends words.new records.now heads.now times.now paths.new bytes.now)
         (in_links links.new)
         first.new second.new result }
 {

@@ -2,7 +2,7 @@
 ghost use Rattle.std.specs.Prelude.{◌≤◌, length};
 ghost use Rattle.layout.specs.Numbers.{extent_at, most_entries, most_bytes, most_slots, paths_bytes};
 ghost use Rattle.layout.specs.Lawful.{Keeps, Passes};
-ghost use Rattle.layout.specs.Lent.{before};
+ghost use Rattle.layout.specs.Lent.{lends};
 ghost use Rattle.lawful_limits.specs.Settles.{Settles};
 ghost use Rattle.lawful.specs.Parts.{Parts};
 
@@ -41,7 +41,7 @@ fn rules_ok(
     paths: &[u8],
     bytes: &[u8],
 ) -> bool
-    ensures { Settles result (Keeps (before words records heads times paths bytes)) }
+    ensures { Settles result (Keeps (lends words.now records.now heads.now times.now paths.now bytes.now)) }
 {
     if !lawful_limits::limits_ok(words) {
         return false;
@@ -77,7 +77,7 @@ pub fn store_ok(
     paths: &[u8],
     bytes: &[u8],
 ) -> bool
-    ensures { Settles result (Passes (before words records heads times paths bytes)) }
+    ensures { Settles result (Passes (lends words.now records.now heads.now times.now paths.now bytes.now)) }
 {
     sizes::known(times);
     rules_ok(words, records, heads, times, paths, bytes)

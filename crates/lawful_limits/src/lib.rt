@@ -1,3 +1,4 @@
+#![tactic(auto)]
 // Limits of a store, and the lengths that they ask.
 ghost use Rattle.lawful_limits.specs.Settles.{Settles};
 ghost use Rattle.lawful_limits.specs.Limits.{Limits, Lengths};

@@ -2,35 +2,17 @@
 -- speaks of every store that has these: as it was, and with these slices as they are left.
 -- Assumes nothing.
 use Rattle.std.specs.Prelude.{List, ℕ, ℤ}
-use Rattle.std.specs.Borrow.{Bor}
-use denote.Triple.Both.{Both}
 use Rattle.model.specs.Prog.{Edit}
 use Rattle.layout.specs.Store.{Store, lent, state}
 use Rattle.layout.specs.Lawful.{Lawful}
 use Rattle.model.specs.Calls.States.{edited}
 use Rattle.layout.specs.Alike.{Spells}
 
--- a lent slice
-abbrev pub Slice : Type 0 → Type 0
-Slice A = Bor (List A)
-
--- the same at a function's two moments, its entry and its exit
-abbrev pub Slices : Type 0 → Type 0
-Slices A = Both (Slice A) (Slice A)
-
 -- ---- all six
 
 -- the store that is lent
-abbrev pub lends : Slice ℕ → Slice ℕ → Slice ℕ → Slice ℤ → Slice ℕ → Slice ℕ → Store
-lends words records heads times paths bytes = lent words.now records.now heads.now times.now paths.now bytes.now
-
--- the store before the call
-abbrev pub before : Slices ℕ → Slices ℕ → Slices ℕ → Slices ℤ → Slices ℕ → Slices ℕ → Store
-before words records heads times paths bytes = lends words.entry records.entry heads.entry times.entry paths.entry bytes.entry
-
--- the store after it
-abbrev pub after : Slices ℕ → Slices ℕ → Slices ℕ → Slices ℤ → Slices ℕ → Slices ℕ → Store
-after words records heads times paths bytes = lends words.exit records.exit heads.exit times.exit paths.exit bytes.exit
+abbrev pub lends : List ℕ → List ℕ → List ℕ → List ℤ → List ℕ → List ℕ → Store
+lends words records heads times paths bytes = lent words records heads times paths bytes
 
 -- ---- some of them, in any store
 
@@ -40,30 +22,30 @@ abbrev pub ◌∘◌ : (Store → Store) → (Store → Store) → Store → Sto
 ◌∘◌ f g st = f (g st)
 
 -- a store with these words of the state
-abbrev pub with_words : Slice ℕ → Store → Store
-with_words words st = lent words.now st.records st.heads st.times st.paths st.bytes
+abbrev pub with_words : List ℕ → Store → Store
+with_words words st = lent words st.records st.heads st.times st.paths st.bytes
 
 -- with these words of the records
-abbrev pub with_records : Slice ℕ → Store → Store
-with_records records st = lent st.words records.now st.heads st.times st.paths st.bytes
+abbrev pub with_records : List ℕ → Store → Store
+with_records records st = lent st.words records st.heads st.times st.paths st.bytes
 
 -- with these words of the slots
-abbrev pub with_heads : Slice ℕ → Store → Store
-with_heads heads st = lent st.words st.records heads.now st.times st.paths st.bytes
+abbrev pub with_heads : List ℕ → Store → Store
+with_heads heads st = lent st.words st.records heads st.times st.paths st.bytes
 
 -- with these times of the slots
-abbrev pub with_times : Slice ℤ → Store → Store
-with_times times st = lent st.words st.records st.heads times.now st.paths st.bytes
+abbrev pub with_times : List ℤ → Store → Store
+with_times times st = lent st.words st.records st.heads times st.paths st.bytes
 
 -- with these cells of the kept paths
-abbrev pub with_paths : Slice ℕ → Store → Store
-with_paths paths st = lent st.words st.records st.heads st.times paths.now st.bytes
+abbrev pub with_paths : List ℕ → Store → Store
+with_paths paths st = lent st.words st.records st.heads st.times paths st.bytes
 
 -- with this byte storage
-abbrev pub with_bytes : Slice ℕ → Store → Store
-with_bytes bytes st = lent st.words st.records st.heads st.times st.paths bytes.now
+abbrev pub with_bytes : List ℕ → Store → Store
+with_bytes bytes st = lent st.words st.records st.heads st.times st.paths bytes
 
--- ---- the same at a function's two moments
+-- ---- the same at a function's two moments, its entry and its exit
 
 -- a store with the slices as they are lent, and as they are left
 pub record Lending : Type 0 where
@@ -75,29 +57,33 @@ infixr 40 ◌&◌
 abbrev pub ◌&◌ : Lending → Lending → Lending
 ◌&◌ k l = record { had = k.had ∘ l.had; has = k.has ∘ l.has }
 
--- the words of the state
-abbrev pub on_words : Slices ℕ → Lending
-on_words words = record { had = with_words words.entry; has = with_words words.exit }
+-- slices that are lent to be read alone: the same at both moments
+abbrev pub still : (Store → Store) → Lending
+still f = record { had = f; has = f }
+
+-- the words of the state, old and new
+abbrev pub on_words : List ℕ → List ℕ → Lending
+on_words old new = record { had = with_words old; has = with_words new }
 
 -- the words of the records
-abbrev pub on_records : Slices ℕ → Lending
-on_records records = record { had = with_records records.entry; has = with_records records.exit }
+abbrev pub on_records : List ℕ → List ℕ → Lending
+on_records old new = record { had = with_records old; has = with_records new }
 
 -- the words of the slots
-abbrev pub on_heads : Slices ℕ → Lending
-on_heads heads = record { had = with_heads heads.entry; has = with_heads heads.exit }
+abbrev pub on_heads : List ℕ → List ℕ → Lending
+on_heads old new = record { had = with_heads old; has = with_heads new }
 
 -- the times of the slots
-abbrev pub on_times : Slices ℤ → Lending
-on_times times = record { had = with_times times.entry; has = with_times times.exit }
+abbrev pub on_times : List ℤ → List ℤ → Lending
+on_times old new = record { had = with_times old; has = with_times new }
 
 -- the cells of the kept paths
-abbrev pub on_paths : Slices ℕ → Lending
-on_paths paths = record { had = with_paths paths.entry; has = with_paths paths.exit }
+abbrev pub on_paths : List ℕ → List ℕ → Lending
+on_paths old new = record { had = with_paths old; has = with_paths new }
 
 -- the byte storage
-abbrev pub on_bytes : Slices ℕ → Lending
-on_bytes bytes = record { had = with_bytes bytes.entry; has = with_bytes bytes.exit }
+abbrev pub on_bytes : List ℕ → List ℕ → Lending
+on_bytes old new = record { had = with_bytes old; has = with_bytes new }
 
 -- ---- what a contract says of them
 

@@ -1,3 +1,4 @@
+#![tactic(auto)]
 // The order of names.
 ghost use Rattle.std.specs.Prelude.{◌≡◌, ◌+◌, ◌≤◌, ◌<◌, length, get_or};
 ghost use Rattle.name_order.specs.Order.{order_of, number, length_order, Shorter};

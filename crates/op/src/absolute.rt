@@ -1,6 +1,6 @@
 // The path that a call is given, made absolute from the current directory (refusal 6).
 ghost use Rattle.std.specs.Prelude.{◌≤◌, length};
-ghost use Rattle.layout.specs.Lent.{◌∘◌, ◌&◌, with_words, with_paths, on_words, on_paths};
+ghost use Rattle.layout.specs.Lent.{◌∘◌, ◌&◌, with_words, with_paths, still};
 ghost use Rattle.store.specs.Shows.{Of};
 ghost use Rattle.op.specs.Testing.{AbsoluteIs};
 
@@ -10,7 +10,7 @@ use path_form::to_absolute_path;
 // In front of the buffer.
 pub fn absolute_in(words: &[u64], paths: &[u8], out: &mut [u8], path: &[u8]) -> Formed
     requires { 1024 ≤ length out.old }
-    ensures { Of (on_words words & on_paths paths) (λ _ s. AbsoluteIs s path.now out.new result) }
+    ensures { Of (still (with_words words.now ∘ with_paths paths.now)) (λ _ s. AbsoluteIs s path.now out.new result) }
 {
     let here = store::here(words, paths);
     to_absolute_path(out, here, path)

@@ -1,12 +1,12 @@
 // The lookups of a call at the path in front of its working buffer: no entry counts as out, and of last links as many are followed as
 // there are links in the tree, which are counted once.
-ghost use Rattle.std.specs.Prelude.{length, take};
+ghost use Rattle.std.specs.Prelude.{take};
 ghost use Rattle.model.specs.Tree.{links_in};
 ghost use Rattle.model.specs.Operations.Steps as steps;
 ghost use Rattle.model.specs.Calls.States.{world_of};
 ghost use Rattle.layout.specs.Numbers.{most_entries};
-ghost use Rattle.layout.specs.Lent.{◌∘◌, with_words, with_records, with_heads, with_bytes};
-ghost use Rattle.layout.specs.Lent.{◌&◌, on_words, on_records, on_heads, on_bytes};
+ghost use Rattle.layout.specs.Lent.{◌∘◌, with_words, with_records, with_heads, with_bytes, still};
+ghost use Rattle.layout.specs.Lent.{◌&◌};
 ghost use Rattle.store.specs.Shows.{Of, Some};
 ghost use Rattle.walk.specs.Lookups.{Walks, Looks};
 ghost use Rattle.walk.specs.Leads.{Leads};
@@ -28,8 +28,8 @@ pub fn leads(
     work: &mut [u8],
     len: usize,
 ) -> Led
-    requires { Some (with_words words ∘ with_records records ∘ with_heads heads ∘ with_bytes bytes) × PathIn work.old len }
-    ensures { Of (on_words words & on_records records & on_heads heads & on_bytes bytes)
+    requires { Some (with_words words.now ∘ with_records records.now ∘ with_heads heads.now ∘ with_bytes bytes.now) × PathIn work.old len }
+    ensures { Of (still (with_words words.now ∘ with_records records.now ∘ with_heads heads.now ∘ with_bytes bytes.now))
         (λ st s. Leads (steps.leads (links_in s.tree)) st s (world_of s) (take len work.old) work.new result) }
 {
     let bound = store::space::links(words, records, heads);
@@ -45,8 +45,8 @@ pub fn lookup(
     work: &mut [u8],
     len: usize,
 ) -> Looked
-    requires { Some (with_words words ∘ with_records records ∘ with_heads heads ∘ with_bytes bytes) × PathIn work.old len }
-    ensures { Of (on_words words & on_records records & on_heads heads & on_bytes bytes)
+    requires { Some (with_words words.now ∘ with_records records.now ∘ with_heads heads.now ∘ with_bytes bytes.now) × PathIn work.old len }
+    ensures { Of (still (with_words words.now ∘ with_records records.now ∘ with_heads heads.now ∘ with_bytes bytes.now))
         (λ st s. Looks st s (world_of s) most_entries (links_in s.tree) (take len work.old) work.new result) }
 {
     let bound = store::space::links(words, records, heads);
@@ -62,8 +62,8 @@ pub fn no_follow(
     work: &mut [u8],
     len: usize,
 ) -> Walked
-    requires { Some (with_words words ∘ with_records records ∘ with_heads heads ∘ with_bytes bytes) × PathIn work.old len }
-    ensures { Of (on_words words & on_records records & on_heads heads & on_bytes bytes)
+    requires { Some (with_words words.now ∘ with_records records.now ∘ with_heads heads.now ∘ with_bytes bytes.now) × PathIn work.old len }
+    ensures { Of (still (with_words words.now ∘ with_records records.now ∘ with_heads heads.now ∘ with_bytes bytes.now))
         (λ st s. Walks st s (world_of s) most_entries (take len work.old) work.new result) }
 {
     walk::lookup::lookup_entry_detail_no_follow(words, records, heads, bytes, work, len, NONE)

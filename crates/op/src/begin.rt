@@ -1,6 +1,6 @@
 // How a call with one path begins: the tests, and the path in front of the first working buffer.
 ghost use Rattle.std.specs.Prelude.{◌≤◌, length};
-ghost use Rattle.layout.specs.Lent.{◌&◌, on_words, on_paths, before};
+ghost use Rattle.layout.specs.Lent.{◌&◌, lends, still, with_words, with_paths, ◌∘◌};
 ghost use Rattle.store.specs.Shows.{Of};
 ghost use Rattle.op.specs.Beginning.{Stops, Begins};
 
@@ -26,7 +26,7 @@ pub enum Begun {
 // 6, or the path made absolute in front of the buffer.
 fn made(words: &[u64], paths: &[u8], out: &mut [u8], path: &[u8]) -> Begun
     requires { 1024 ≤ length out.old }
-    ensures { Of (on_words words & on_paths paths) (λ _ s. Stops s Sort.Any path.now out.new result) }
+    ensures { Of (still (with_words words.now ∘ with_paths paths.now)) (λ _ s. Stops s Sort.Any path.now out.new result) }
 {
     match absolute_in(words, paths, out, path) {
         Formed::Text(n) => Begun::At(n),
@@ -37,7 +37,7 @@ fn made(words: &[u64], paths: &[u8], out: &mut [u8], path: &[u8]) -> Begun
 // 8 or 6, or the path as it is taken in front of the buffer.
 fn form(words: &[u64], paths: &[u8], out: &mut [u8], path: &[u8], sort: Sort) -> Begun
     requires { 1024 ≤ length out.old }
-    ensures { Of (on_words words & on_paths paths) (λ _ s. Stops s sort path.now out.new result) }
+    ensures { Of (still (with_words words.now ∘ with_paths paths.now)) (λ _ s. Stops s sort path.now out.new result) }
 {
     match sort {
         Sort::Any => made(words, paths, out, path),
@@ -63,7 +63,7 @@ pub fn begin(
     path: &[u8],
     sort: Sort,
 ) -> Begun
-    ensures { Begins (before words records heads times paths bytes) first.old second.now sort path.now
+    ensures { Begins (lends words.now records.now heads.now times.now paths.now bytes.now) first.old second.now sort path.now
         first.new result }
 {
     let work = Work::Lent(first.len(), second.len());

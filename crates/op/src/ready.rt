@@ -6,7 +6,7 @@ ghost use Rattle.model.specs.Refusals.{bad_text, text_too_long};
 ghost use Rattle.model.specs.Tree.{open_of};
 ghost use Rattle.model.specs.Operations.Steps.{is_some};
 ghost use Rattle.model.specs.Calls.Calling.{all, first_of, number_fits, work_fits};
-ghost use Rattle.layout.specs.Lent.{before, on_words};
+ghost use Rattle.layout.specs.Lent.{lends, still, with_words};
 ghost use Rattle.store.specs.Shows.{Of};
 ghost use Rattle.op.specs.Testing.{walks, work_of, number_of, screen_of, Tested};
 
@@ -46,7 +46,7 @@ fn work_fits(work: Work) -> bool
 
 // Whether the file number n is open.
 fn is_open(words: &[u64], n: u32) -> bool
-    ensures { Of (on_words words) (λ _ s. result ≡ is_some (open_of s.opens n)) }
+    ensures { Of (still (with_words words.now)) (λ _ s. result ≡ is_some (open_of s.opens n)) }
 {
     match store::open(words, n as usize) {
         store::Number::Closed => false,
@@ -56,7 +56,7 @@ fn is_open(words: &[u64], n: u32) -> bool
 
 // 4: a number above 31, in use at open, or not open elsewhere.
 fn number_fits(words: &[u64], number: Number) -> bool
-    ensures { Of (on_words words) (λ _ s. result ≡ number_fits (number_of number) s.opens) }
+    ensures { Of (still (with_words words.now)) (λ _ s. result ≡ number_fits (number_of number) s.opens) }
 {
     match number {
         Number::NotGiven => true,
@@ -97,7 +97,7 @@ fn texts(a: &[u8], b: &[u8]) -> u32
 
 // The first of 14, 2, 3 and 4 that applies, or 0.
 fn screened(words: &[u64], work: Work, a: &[u8], b: &[u8], number: Number) -> u32
-    ensures { Of (on_words words) (λ _ s. result ≡ screen_of work a.now b.now number s) }
+    ensures { Of (still (with_words words.now)) (λ _ s. result ≡ screen_of work a.now b.now number s) }
 {
     if !work_fits(work) {
         return 14;
@@ -125,7 +125,7 @@ pub fn ready(
     b: &[u8],
     number: Number,
 ) -> u32
-    ensures { Tested (before words records heads times paths bytes) work a.now b.now number result }
+    ensures { Tested (lends words.now records.now heads.now times.now paths.now bytes.now) work a.now b.now number result }
 {
     if !lawful::store_ok(words, records, heads, times, paths, bytes) {
         return 1;

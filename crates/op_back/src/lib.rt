@@ -1,6 +1,6 @@
 // What is read back beside the calls of a job: the current directory, what is used and allowed, the file numbers.
-ghost use Rattle.layout.specs.Lent.{◌∘◌, with_words, with_records, with_heads, with_paths};
-ghost use Rattle.layout.specs.Lent.{◌&◌, on_words, on_records, on_heads, on_paths};
+ghost use Rattle.layout.specs.Lent.{◌∘◌, with_words, with_records, with_heads, with_paths, still};
+ghost use Rattle.layout.specs.Lent.{◌&◌};
 ghost use Rattle.store.specs.Shows.{Of, Some};
 ghost use Rattle.op.specs.Telling.{HereIs, UsageIs, in_slot, NumberIs};
 
@@ -9,8 +9,8 @@ use op_look::contents::put_path;
 
 // The path of the current directory.
 pub fn tell_here(words: &[u64], paths: &[u8], out: &mut [u8], number: &mut u64) -> u32
-    requires { Some (with_words words ∘ with_paths paths) }
-    ensures { Of (on_words words & on_paths paths)
+    requires { Some (with_words words.now ∘ with_paths paths.now) }
+    ensures { Of (still (with_words words.now ∘ with_paths paths.now))
         (λ _ s. HereIs out.old number.old out.new number.new result s) }
 {
     let here = store::here(words, paths);
@@ -19,8 +19,8 @@ pub fn tell_here(words: &[u64], paths: &[u8], out: &mut [u8], number: &mut u64) 
 
 // Umask, limits, and what is used of them.
 pub fn tell_usage(words: &[u64], records: &[u64], heads: &[u64], numbers: &mut [u64]) -> u32
-    requires { Some (with_words words ∘ with_records records ∘ with_heads heads) }
-    ensures { Of (on_words words & on_records records & on_heads heads) (λ _ s. UsageIs numbers.old numbers.new result s) }
+    requires { Some (with_words words.now ∘ with_records records.now ∘ with_heads heads.now) }
+    ensures { Of (still (with_words words.now ∘ with_records records.now ∘ with_heads heads.now)) (λ _ s. UsageIs numbers.old numbers.new result s) }
 {
     if numbers.len() < 5 {
         return 14;
@@ -45,8 +45,8 @@ pub fn tell_number(
     position: &mut u64,
     size: &mut u64,
 ) -> u32
-    requires { Some (with_words words ∘ with_paths paths) }
-    ensures { Of (on_words words & on_paths paths)
+    requires { Some (with_words words.now ∘ with_paths paths.now) }
+    ensures { Of (still (with_words words.now ∘ with_paths paths.now))
         (λ _ s. NumberIs n (in_slot out.old position.old size.old)
         (in_slot out.new position.new size.new) result s) }
 {

@@ -5,8 +5,8 @@ ghost use Rattle.model.specs.Tree.{links_in};
 ghost use Rattle.model.specs.Operations.Contents.{read_at};
 ghost use Rattle.model.specs.Operations.Directories.{canonicalize_at};
 ghost use Rattle.model.specs.Operations.Shows.{read_link_at};
-ghost use Rattle.layout.specs.Lent.{◌∘◌, with_words, with_records, with_heads, with_bytes};
-ghost use Rattle.layout.specs.Lent.{◌&◌, on_words, on_records, on_heads, on_bytes};
+ghost use Rattle.layout.specs.Lent.{◌∘◌, with_words, with_records, with_heads, with_bytes, still};
+ghost use Rattle.layout.specs.Lent.{◌&◌};
 ghost use Rattle.store.specs.Shows.{Some};
 ghost use Rattle.walk.specs.Meets.{Plain};
 ghost use Rattle.op.specs.Lending.{in_bytes, PutIs};
@@ -30,8 +30,8 @@ pub fn read_link_at(
     number: &mut u64,
     links: &mut u64,
 ) -> u32
-    requires { Some (with_words words ∘ with_records records ∘ with_heads heads ∘ with_bytes bytes) × PathIn work.old len }
-    ensures { Answered (on_words words & on_records records & on_heads heads & on_bytes bytes)
+    requires { Some (with_words words.now ∘ with_records records.now ∘ with_heads heads.now ∘ with_bytes bytes.now) × PathIn work.old len }
+    ensures { Answered (still (with_words words.now ∘ with_records records.now ∘ with_heads heads.now ∘ with_bytes bytes.now))
         (λ s. read_link_at (length out.old) (names (take len work.old)))
         (in_bytes out.old number.old links.old)
         (in_bytes out.new number.new links.new) result }
@@ -67,8 +67,8 @@ pub fn read_at(
     number: &mut u64,
     links: &mut u64,
 ) -> u32
-    requires { Some (with_words words ∘ with_records records ∘ with_heads heads ∘ with_bytes bytes) × PathIn work.old len }
-    ensures { Answered (on_words words & on_records records & on_heads heads & on_bytes bytes)
+    requires { Some (with_words words.now ∘ with_records records.now ∘ with_heads heads.now ∘ with_bytes bytes.now) × PathIn work.old len }
+    ensures { Answered (still (with_words words.now ∘ with_records records.now ∘ with_heads heads.now ∘ with_bytes bytes.now))
         (λ s. read_at (links_in s.tree) (length out.old) (names (take len work.old)))
         (in_bytes out.old number.old links.old)
         (in_bytes out.new number.new links.new) result }
@@ -123,8 +123,8 @@ pub fn canonicalize_at(
     number: &mut u64,
     links: &mut u64,
 ) -> u32
-    requires { Some (with_words words ∘ with_records records ∘ with_heads heads ∘ with_bytes bytes) × PathIn work.old len }
-    ensures { Answered (on_words words & on_records records & on_heads heads & on_bytes bytes)
+    requires { Some (with_words words.now ∘ with_records records.now ∘ with_heads heads.now ∘ with_bytes bytes.now) × PathIn work.old len }
+    ensures { Answered (still (with_words words.now ∘ with_records records.now ∘ with_heads heads.now ∘ with_bytes bytes.now))
         (λ s. canonicalize_at (links_in s.tree) (length out.old) (names (take len work.old)))
         (in_bytes out.old number.old links.old)
         (in_bytes out.new number.new links.new) result }

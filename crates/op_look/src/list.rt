@@ -3,8 +3,8 @@ ghost use Rattle.std.specs.Prelude.{◌/◌, length, take};
 ghost use Rattle.path.specs.Path.{names};
 ghost use Rattle.model.specs.Tree.{links_in};
 ghost use Rattle.model.specs.Operations.Shows.{list_at};
-ghost use Rattle.layout.specs.Lent.{◌∘◌, with_words, with_records, with_heads, with_times, with_bytes};
-ghost use Rattle.layout.specs.Lent.{◌&◌, on_words, on_records, on_heads, on_times, on_bytes};
+ghost use Rattle.layout.specs.Lent.{◌∘◌, with_words, with_records, with_heads, with_times, with_bytes, still};
+ghost use Rattle.layout.specs.Lent.{◌&◌};
 ghost use Rattle.store.specs.Shows.{Some, OfEntry};
 ghost use Rattle.op.specs.Lending.{in_both};
 ghost use Rattle.op.specs.Doing.{Answered};
@@ -26,8 +26,8 @@ fn put_records(
     rows: &mut [i64],
     spot: Spot,
 )
-    requires { SomeRows (with_words words ∘ with_records records ∘ with_heads heads ∘ with_times times) spot rows.old }
-    ensures { OfEntry (on_words words & on_records records & on_heads heads & on_times times) spot
+    requires { SomeRows (with_words words.now ∘ with_records records.now ∘ with_heads heads.now ∘ with_times times.now) spot rows.old }
+    ensures { OfEntry (still (with_words words.now ∘ with_records records.now ∘ with_heads heads.now ∘ with_times times.now)) spot
         (λ s p. RowsPut s p rows.old rows.new) }
 {
     let mut at = 0;
@@ -61,8 +61,9 @@ pub fn list_at(
     number: &mut u64,
     links: &mut u64,
 ) -> u32
-    requires { Some (with_words words ∘ with_records records ∘ with_heads heads ∘ with_times times ∘ with_bytes bytes) × PathIn work.old len }
-    ensures { Answered (on_words words & on_records records & on_heads heads & on_times times & on_bytes bytes)
+    requires { Some (with_words words.now ∘ with_records records.now ∘ with_heads heads.now ∘ with_times times.now ∘ with_bytes bytes.now)
+        × PathIn work.old len }
+    ensures { Answered (still (with_words words.now ∘ with_records records.now ∘ with_heads heads.now ∘ with_times times.now ∘ with_bytes bytes.now))
         (λ s. list_at (links_in s.tree) (length out.old) (length rows.old / 7) (names (take len work.old)))
         (in_both out.old rows.old number.old links.old)
         (in_both out.new rows.new number.new links.new) result }

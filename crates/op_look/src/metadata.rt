@@ -3,8 +3,8 @@ ghost use Rattle.std.specs.Prelude.{◌/◌, length, take};
 ghost use Rattle.path.specs.Path.{names};
 ghost use Rattle.model.specs.Tree.{links_in};
 ghost use Rattle.model.specs.Operations.Shows.{metadata_at, symlink_metadata_at};
-ghost use Rattle.layout.specs.Lent.{◌∘◌, with_words, with_records, with_heads, with_times, with_bytes};
-ghost use Rattle.layout.specs.Lent.{◌&◌, on_words, on_records, on_heads, on_times, on_bytes};
+ghost use Rattle.layout.specs.Lent.{◌∘◌, with_words, with_records, with_heads, with_times, with_bytes, still};
+ghost use Rattle.layout.specs.Lent.{◌&◌};
 ghost use Rattle.store.specs.Shows.{Some, SomeEntry};
 ghost use Rattle.op.specs.Lending.{in_rows};
 ghost use Rattle.op.specs.Doing.{Answered};
@@ -26,8 +26,9 @@ fn show(
     rows: &mut [i64],
     spot: Spot,
 ) -> u32
-    requires { SomeEntry (with_words words ∘ with_records records ∘ with_heads heads ∘ with_times times) spot }
-    ensures { RowAt (on_words words & on_records records & on_heads heads & on_times times) spot rows.old rows.new result }
+    requires { SomeEntry (with_words words.now ∘ with_records records.now ∘ with_heads heads.now ∘ with_times times.now) spot }
+    ensures { RowAt (still (with_words words.now ∘ with_records records.now ∘ with_heads heads.now
+        ∘ with_times times.now)) spot rows.old rows.new result }
 {
     let s = store::stat(words, records, heads, times, spot);
     if rows.len() < NUMBERS {
@@ -49,8 +50,9 @@ pub fn metadata_at(
     rows: &mut [i64],
     links: &mut u64,
 ) -> u32
-    requires { Some (with_words words ∘ with_records records ∘ with_heads heads ∘ with_times times ∘ with_bytes bytes) × PathIn work.old len }
-    ensures { Answered (on_words words & on_records records & on_heads heads & on_times times & on_bytes bytes)
+    requires { Some (with_words words.now ∘ with_records records.now ∘ with_heads heads.now ∘ with_times times.now ∘ with_bytes bytes.now)
+        × PathIn work.old len }
+    ensures { Answered (still (with_words words.now ∘ with_records records.now ∘ with_heads heads.now ∘ with_times times.now ∘ with_bytes bytes.now))
         (λ s. metadata_at (links_in s.tree) (length rows.old / 7) (names (take len work.old)))
         (in_rows rows.old links.old) (in_rows rows.new links.new) result }
 {
@@ -79,8 +81,9 @@ pub fn symlink_metadata_at(
     rows: &mut [i64],
     links: &mut u64,
 ) -> u32
-    requires { Some (with_words words ∘ with_records records ∘ with_heads heads ∘ with_times times ∘ with_bytes bytes) × PathIn work.old len }
-    ensures { Answered (on_words words & on_records records & on_heads heads & on_times times & on_bytes bytes)
+    requires { Some (with_words words.now ∘ with_records records.now ∘ with_heads heads.now ∘ with_times times.now ∘ with_bytes bytes.now)
+        × PathIn work.old len }
+    ensures { Answered (still (with_words words.now ∘ with_records records.now ∘ with_heads heads.now ∘ with_times times.now ∘ with_bytes bytes.now))
         (λ s. symlink_metadata_at (length rows.old / 7) (names (take len work.old)))
         (in_rows rows.old links.old) (in_rows rows.new links.new) result }
 {

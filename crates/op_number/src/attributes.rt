@@ -1,8 +1,8 @@
 // What a number stands on: closed, cut or extended, its mode and times changed.
 ghost use Rattle.model.specs.Calls.Performing.{bit, given_if};
 ghost use Rattle.model.specs.Operations.Numbers.{close_on, set_length_on, set_mode_on, set_times_on};
-ghost use Rattle.layout.specs.Lent.{◌∘◌, with_words, with_records, with_heads, with_times, with_bytes};
-ghost use Rattle.layout.specs.Lent.{◌&◌, on_words, on_records, on_heads, on_times, on_bytes};
+ghost use Rattle.layout.specs.Lent.{◌∘◌, with_words, with_records, with_heads, with_times, with_bytes, still};
+ghost use Rattle.layout.specs.Lent.{◌&◌, on_words, on_heads, on_times, on_bytes};
 ghost use Rattle.op.specs.Lending.{in_nothing};
 ghost use Rattle.op_number.specs.Opened.{SomeOpen, OpenAnswered};
 
@@ -14,8 +14,9 @@ pub fn close_on(
     bytes: &mut [u8],
     n: usize,
 ) -> u32
-    requires { SomeOpen (with_words words ∘ with_records records ∘ with_heads heads ∘ with_bytes bytes) n }
-    ensures { OpenAnswered (on_words words & on_records records & on_heads heads & on_bytes bytes) n (λ _. close_on n) in_nothing in_nothing result }
+    requires { SomeOpen (with_words words.old ∘ with_records records.now ∘ with_heads heads.old ∘ with_bytes bytes.old) n }
+    ensures { OpenAnswered (on_words words.old words.new & still (with_records records.now) & on_heads heads.old heads.new
+        & on_bytes bytes.old bytes.new) n (λ _. close_on n) in_nothing in_nothing result }
 {
     store_edit::number::close(words, records, heads, bytes, n);
     0
@@ -30,8 +31,8 @@ pub fn set_length_on(
     n: usize,
     size: u64,
 ) -> u32
-    requires { SomeOpen (with_words words ∘ with_records records ∘ with_heads heads ∘ with_bytes bytes) n }
-    ensures { OpenAnswered (on_words words & on_records records & on_heads heads & on_bytes bytes) n
+    requires { SomeOpen (with_words words.now ∘ with_records records.now ∘ with_heads heads.old ∘ with_bytes bytes.old) n }
+    ensures { OpenAnswered (still (with_words words.now ∘ with_records records.now) & on_heads heads.old heads.new & on_bytes bytes.old bytes.new) n
         (λ _. set_length_on n size) in_nothing in_nothing result }
 {
     let len = store::held(words, heads, bytes, n).len();
@@ -45,8 +46,8 @@ pub fn set_length_on(
 
 // The mode of its file.
 pub fn set_mode_on(words: &[u64], heads: &mut [u64], n: usize, mode: u32) -> u32
-    requires { SomeOpen (with_words words ∘ with_heads heads) n }
-    ensures { OpenAnswered (on_words words & on_heads heads) n (λ _. set_mode_on n mode) in_nothing in_nothing result }
+    requires { SomeOpen (with_words words.now ∘ with_heads heads.old) n }
+    ensures { OpenAnswered (still (with_words words.now) & on_heads heads.old heads.new) n (λ _. set_mode_on n mode) in_nothing in_nothing result }
 {
     store_edit::number::chmod_held(words, heads, n, mode);
     0
@@ -61,8 +62,8 @@ pub fn set_times_on(
     accessed: i64,
     modified: i64,
 ) -> u32
-    requires { SomeOpen (with_words words ∘ with_times times) n }
-    ensures { OpenAnswered (on_words words & on_times times) n
+    requires { SomeOpen (with_words words.now ∘ with_times times.old) n }
+    ensures { OpenAnswered (still (with_words words.now) & on_times times.old times.new) n
         (λ _. set_times_on n (given_if (bit flags 1) accessed) (given_if (bit flags 2) modified)) in_nothing in_nothing result }
 {
     let access = flags % 2 == 1;

@@ -2,8 +2,8 @@
 ghost use Rattle.std.specs.Prelude.{◌/◌, ◌≤◌, length};
 ghost use Rattle.model.specs.Tree.{links_in};
 ghost use Rattle.model.specs.Operations.Numbers.{metadata_on};
-ghost use Rattle.layout.specs.Lent.{◌∘◌, with_words, with_records, with_heads, with_times, with_paths, with_bytes};
-ghost use Rattle.layout.specs.Lent.{◌&◌, on_words, on_records, on_heads, on_times, on_paths, on_bytes};
+ghost use Rattle.layout.specs.Lent.{◌∘◌, with_words, with_records, with_heads, with_times, with_paths, with_bytes, still};
+ghost use Rattle.layout.specs.Lent.{◌&◌};
 ghost use Rattle.op.specs.Lending.{in_rows};
 ghost use Rattle.op_number.specs.Opened.{SomeOpen, OpenAnswered};
 
@@ -23,9 +23,11 @@ pub fn metadata_on(
     rows: &mut [i64],
     links: &mut u64,
 ) -> u32
-    requires { SomeOpen (with_words words ∘ with_records records ∘ with_heads heads ∘ with_times times ∘ with_paths paths ∘ with_bytes bytes) n
+    requires { SomeOpen (with_words words.now ∘ with_records records.now ∘ with_heads heads.now ∘ with_times times.now ∘ with_paths paths.now
+        ∘ with_bytes bytes.now) n
         × (1024 ≤ length work.old) }
-    ensures { OpenAnswered (on_words words & on_records records & on_heads heads & on_times times & on_paths paths & on_bytes bytes) n
+    ensures { OpenAnswered (still (with_words words.now ∘ with_records records.now ∘ with_heads heads.now ∘ with_times times.now
+        ∘ with_paths paths.now ∘ with_bytes bytes.now)) n
         (λ s. metadata_on (links_in s.tree) n (length rows.old / 7))
         (in_rows rows.old links.old) (in_rows rows.new links.new) result }
 {

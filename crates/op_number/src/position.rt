@@ -1,8 +1,8 @@
 // A number's position: read from there on, and set.
 ghost use Rattle.std.specs.Prelude.{◌≡◌, ◌^◌, ◌<◌, length, take, drop};
 ghost use Rattle.model.specs.Operations.Numbers.{read_on, seek_on};
-ghost use Rattle.layout.specs.Lent.{◌∘◌, with_words, with_heads, with_bytes};
-ghost use Rattle.layout.specs.Lent.{◌&◌, on_words, on_heads, on_bytes};
+ghost use Rattle.layout.specs.Lent.{◌∘◌, with_words, with_heads, with_bytes, still};
+ghost use Rattle.layout.specs.Lent.{◌&◌, on_words};
 ghost use Rattle.store.specs.Shows.{Of};
 ghost use Rattle.op.specs.Lending.{in_bytes, in_number};
 ghost use Rattle.op_number.specs.Opened.{SomeOpen, OpenAnswered, PositionIs, SeekIs};
@@ -21,7 +21,7 @@ const HALF: u64 = 9223372036854775808;
 
 // The position of the number n, which is open.
 fn position(words: &[u64], n: usize) -> u64
-    ensures { Of (on_words words) (λ _ s. PositionIs s n result) }
+    ensures { Of (still (with_words words.now)) (λ _ s. PositionIs s n result) }
 {
     match store::open(words, n) {
         store::Number::Open(k) => k,
@@ -52,8 +52,8 @@ pub fn read_on(
     out: &mut [u8],
     number: &mut u64,
 ) -> u32
-    requires { SomeOpen (with_words words ∘ with_heads heads ∘ with_bytes bytes) n }
-    ensures { OpenAnswered (on_words words & on_heads heads & on_bytes bytes) n (λ _. read_on n (length out.old))
+    requires { SomeOpen (with_words words.old ∘ with_heads heads.now ∘ with_bytes bytes.now) n }
+    ensures { OpenAnswered (on_words words.old words.new & still (with_heads heads.now ∘ with_bytes bytes.now)) n (λ _. read_on n (length out.old))
         (in_bytes out.old number.old 0) (in_bytes out.new number.new 0) result }
 {
     let pos = position(words, n);
@@ -108,8 +108,8 @@ pub fn seek_on(
     offset: u64,
     number: &mut u64,
 ) -> u32
-    requires { SomeOpen (with_words words ∘ with_heads heads ∘ with_bytes bytes) n }
-    ensures { OpenAnswered (on_words words & on_heads heads & on_bytes bytes) n (λ _. seek_on n origin offset)
+    requires { SomeOpen (with_words words.old ∘ with_heads heads.now ∘ with_bytes bytes.now) n }
+    ensures { OpenAnswered (on_words words.old words.new & still (with_heads heads.now ∘ with_bytes bytes.now)) n (λ _. seek_on n origin offset)
         (in_number number.old) (in_number number.new) result }
 {
     let pos = position(words, n);

@@ -3,8 +3,8 @@ ghost use Rattle.std.specs.Prelude.{take};
 ghost use Rattle.path.specs.Path.{names};
 ghost use Rattle.model.specs.Tree.{links_in};
 ghost use Rattle.model.specs.Operations.Directories.{set_current_dir_at, umask_to};
-ghost use Rattle.layout.specs.Lent.{◌∘◌, with_words, with_records, with_heads, with_paths, with_bytes};
-ghost use Rattle.layout.specs.Lent.{◌&◌, on_words, on_records, on_heads, on_paths, on_bytes};
+ghost use Rattle.layout.specs.Lent.{◌∘◌, with_words, with_records, with_heads, with_paths, with_bytes, still};
+ghost use Rattle.layout.specs.Lent.{◌&◌, on_words, on_paths};
 ghost use Rattle.store.specs.Shows.{Some};
 ghost use Rattle.op.specs.Lending.{in_links, in_number};
 ghost use Rattle.op.specs.Doing.{Answered};
@@ -15,8 +15,8 @@ use walk::leads::Led;
 
 // Sets the umask and answers the old one.
 pub fn set_umask_to(words: &mut [u64], mask: u32, number: &mut u64) -> u32
-    requires { Some (with_words words) }
-    ensures { Answered (on_words words) (λ _. umask_to mask) (in_number number.old) (in_number number.new) result }
+    requires { Some (with_words words.old) }
+    ensures { Answered (on_words words.old words.new) (λ _. umask_to mask) (in_number number.old) (in_number number.new) result }
 {
     let old = store::mask(words);
     store_edit::state::umask(words, mask);
@@ -35,8 +35,10 @@ pub fn set_current_at(
     len: usize,
     links: &mut u64,
 ) -> u32
-    requires { Some (with_words words ∘ with_records records ∘ with_heads heads ∘ with_paths paths ∘ with_bytes bytes) × PathIn work.old len }
-    ensures { Answered (on_words words & on_records records & on_heads heads & on_paths paths & on_bytes bytes)
+    requires { Some (with_words words.old ∘ with_records records.now ∘ with_heads heads.now ∘ with_paths paths.old ∘ with_bytes bytes.now)
+        × PathIn work.old len }
+    ensures { Answered (on_words words.old words.new & still (with_records records.now ∘ with_heads heads.now) & on_paths paths.old paths.new
+        & still (with_bytes bytes.now))
         (λ s. set_current_dir_at (links_in s.tree) (names (take len work.old)))
         (in_links links.old) (in_links links.new) result }
 {

@@ -2,7 +2,6 @@
 -- Assumes nothing.
 use Rattle.std.specs.Prelude.{◌≡◌, cond, List, [], ◌∷◌, ◌++◌, ℕ, suc, ◌+◌, ◌-◌, ◌≤◌, ◌<◌, leb, length, take, drop, get_or}
 use Rattle.layout.specs.Numbers.{depths}
-use Rattle.layout.specs.Lent.{Slices}
 use Rattle.layout.specs.Fields.{depth_of, slot_of}
 use Rattle.layout.specs.Rows.{Row, rows, name_total}
 use Rattle.layout.specs.Slots.{total, contents}
@@ -85,21 +84,3 @@ pub record Lowered (ws bs ws' bs' : List ℕ) (count i e s : ℕ) (x : List ℕ)
   pub texts : (hs : List ℕ) → name_total (take count ws) + length x + total hs ≤ length bs → contents hs bs' ≡ contents hs bs
   pub record_count : length ws' ≡ length ws
   pub byte_count : length bs' ≡ length bs
-
--- ---- the same of slices at a function's two moments
-
--- an entry put in
-abbrev pub Opens : Slices ℕ → Slices ℕ → ℕ → ℕ → ℕ → List ℕ → Type 0
-Opens records bytes count k w x = Opened records.entry.now bytes.entry.now records.exit.now bytes.exit.now count k w x
-
--- entries taken out
-abbrev pub Closes : Slices ℕ → Slices ℕ → ℕ → ℕ → ℕ → Type 0
-Closes records bytes count a b = Closed records.entry.now bytes.entry.now records.exit.now bytes.exit.now count a b
-
--- entries moved
-abbrev pub Moves : Slices ℕ → Slices ℕ → ℕ → ℕ → ℕ → ℕ → ℕ → ℕ → Type 0
-Moves records bytes count a b p up down = Moved records.entry.now bytes.entry.now records.exit.now bytes.exit.now count a b p up down
-
--- an entry one deeper, and another in its place
-abbrev pub Lowers : Slices ℕ → Slices ℕ → ℕ → ℕ → ℕ → ℕ → List ℕ → Type 0
-Lowers records bytes count i e s x = Lowered records.entry.now bytes.entry.now records.exit.now bytes.exit.now count i e s x

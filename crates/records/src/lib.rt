@@ -1,10 +1,11 @@
+#![tactic(auto)]
 // The records of the entries, and their names: put in, taken out, moved.
 ghost use Rattle.std.specs.Prelude.{◌≡◌, suc, ◌+◌, ◌-◌, ◌<◌, ◌≤◌, length, take, drop, get_or};
 ghost use Rattle.layout.specs.Numbers.{most_entries, depths, name_lengths, slot_numbers};
 ghost use Rattle.layout.specs.Fields.{depth_of, nlen_of, slot_of};
 ghost use Rattle.layout.specs.Rows.{name_total};
 ghost use Rattle.blocks.specs.Turn.{turned};
-ghost use Rattle.records.specs.Blocks.{changed, lift, Liftables, Opens, Closes, Moves, Lowers};
+ghost use Rattle.records.specs.Blocks.{changed, lift, Liftables, Opened, Closed, Moved, Lowered};
 
 use layout::{DEPTHS, NAME_LENGTHS, SLOT_UNIT};
 
@@ -41,7 +42,7 @@ pub fn open_entry(
 )
     requires { (k ≤ count) × (count < length records.old) × (count ≤ most_entries) × (nlen_of word ≡ length name.now)
         × (name_total (take count records.old) + length name.now ≤ length bytes.old) }
-    ensures { Opens records bytes count k word name.now }
+    ensures { Opened records.old bytes.old records.new bytes.new count k word name.now }
 {
     let o = names_between(records, 0, k);
     let u = o + names_between(records, k, count);
@@ -56,7 +57,7 @@ pub fn open_entry(
 pub fn close_entries(records: &mut [u64], bytes: &mut [u8], count: usize, a: usize, b: usize)
     requires { (a ≤ b) × (b ≤ count) × (count ≤ length records.old) × (count ≤ most_entries)
         × (name_total (take count records.old) ≤ length bytes.old) }
-    ensures { Closes records bytes count a b }
+    ensures { Closed records.old bytes.old records.new bytes.new count a b }
 {
     let o = names_between(records, 0, a);
     let n = names_between(records, a, b);
@@ -107,7 +108,7 @@ pub fn move_block(
 )
     requires { (a ≤ b) × (b ≤ count) × (p ≤ count) × ((a < p) → b ≤ p) × (count ≤ length records.old) × (count ≤ most_entries)
         × (name_total (take count records.old) ≤ length bytes.old) × (up ≤ depths) × Liftables records.old a b up down }
-    ensures { Moves records bytes count a b p up down }
+    ensures { Moved records.old bytes.old records.new bytes.new count a b p up down }
 {
     lift_words(records, a, b, up, down);
     if p <= a {
@@ -146,7 +147,7 @@ pub fn lower_block(
     requires { (i < e) × (e ≤ count) × (count < length records.old) × (count ≤ most_entries) × (s < slot_numbers)
         × (length name.now < name_lengths) × (slot_of (get_or records.old i 0) < slot_numbers) × Liftables records.old i e 1 0
         × (name_total (take count records.old) + length name.now ≤ length bytes.old) }
-    ensures { Lowers records bytes count i e s name.now }
+    ensures { Lowered records.old bytes.old records.new bytes.new count i e s name.now }
 {
     let w = records[i];
     let below = word_below(w, name.len());

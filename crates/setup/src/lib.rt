@@ -1,7 +1,8 @@
+#![tactic(auto)]
 // Set up: a fresh store in what the caller lends.
 ghost use Rattle.std.specs.Prelude.{◌≡◌, ◌++◌, ◌≤◌, length, drop, replicate};
 ghost use Rattle.layout.specs.Numbers.{word_count};
-ghost use Rattle.layout.specs.Lent.{before, after};
+ghost use Rattle.layout.specs.Lent.{lends};
 ghost use Rattle.setup.specs.SetUp.{entries_fit, bytes_fit, fresh_words, IsSetUp};
 
 use layout::{
@@ -89,7 +90,8 @@ pub fn set_up(
     limit: u64,
     room: u64,
 ) -> u32
-    ensures { IsSetUp limit room (before words records heads times paths bytes) (after words records heads times paths bytes) result }
+    ensures { IsSetUp limit room (lends words.old records.now heads.now times.now paths.now bytes.now)
+        (lends words.new records.now heads.now times.now paths.now bytes.now) result }
 {
     if !entries_fit(
         words.len(),

@@ -3,7 +3,6 @@
 use Rattle.std.specs.Prelude.{◌≡◌, cond, List, [], ◌∷◌, ◌++◌, ℕ, ◌+◌, ◌-◌, ◌≤◌, eqb, length, take, set, get_or, replicate}
 use Rattle.blocks.specs.Moved.{moved}
 use Rattle.layout.specs.Fields.{len_of}
-use Rattle.layout.specs.Lent.{Slices}
 use Rattle.layout.specs.Slots.{total, start, contents}
 
 -- the word h with the length n
@@ -51,21 +50,3 @@ pub record Step (hs bs hs' bs' : List ℕ) (i keep src dst r : ℕ) : Type 0 whe
   pub heads : hs' ≡ set hs i (cond (eqb keep 0) 0 (get_or hs i 0))
   pub bytes : bs' ≡ cond (eqb keep 0) bs (moved bs (src - len_of (get_or hs i 0)) (src - len_of (get_or hs i 0) + (dst - src)) (len_of (get_or hs i 0)))
   pub next : r ≡ cond (eqb keep 0) dst (dst - len_of (get_or hs i 0))
-
--- ---- the same of slices at a function's two moments
-
--- the bytes of the slots before
-abbrev pub texts_of : Slices ℕ → Slices ℕ → List (List ℕ)
-texts_of heads bytes = contents heads.entry.now bytes.entry.now
-
--- x put as the bytes of slot k
-abbrev pub Puts : Slices ℕ → Slices ℕ → ℕ → ℕ → List ℕ → Type 0
-Puts heads bytes k n x = Put heads.entry.now bytes.entry.now heads.exit.now bytes.exit.now k n x
-
--- slots freed
-abbrev pub Frees : Slices ℕ → Slices ℕ → List ℕ → List (List ℕ) → Type 0
-Frees heads bytes ws cs = Freed heads.entry.now bytes.entry.now heads.exit.now bytes.exit.now ws cs
-
--- one slot of a sweep
-abbrev pub Steps : Slices ℕ → Slices ℕ → ℕ → ℕ → ℕ → ℕ → ℕ → Type 0
-Steps heads bytes i keep src dst r = Step heads.entry.now bytes.entry.now heads.exit.now bytes.exit.now i keep src dst r

@@ -1,11 +1,12 @@
+#![tactic(auto)]
 // The words of the slots, their times, and their bytes: these stand at the end of the byte storage, one slot behind the other.
 ghost use Rattle.std.specs.Prelude.{◌≡◌, ◌++◌, [], ◌+◌, ◌*◌, ◌-◌, ◌^◌, ◌<◌, ◌≤◌, length, take, drop, get_or, set, replicate};
 ghost use Rattle.layout.specs.Numbers.{lengths};
 ghost use Rattle.layout.specs.Fields.{len_of};
-ghost use Rattle.layout.specs.Slots.{total};
+ghost use Rattle.layout.specs.Slots.{total, contents};
 ghost use Rattle.slots.specs.Free.{free_from};
 ghost use Rattle.slots.specs.Times.{times_set};
-ghost use Rattle.slots.specs.Put.{fitted, swept, swept_c, texts_of, Puts, Frees, Steps};
+ghost use Rattle.slots.specs.Put.{fitted, swept, swept_c, Put, Freed, Step};
 
 use layout::LENGTHS;
 
@@ -61,7 +62,7 @@ fn zeros(s: &mut [u8], a: usize, e: usize)
 pub fn resize(heads: &mut [u64], bytes: &mut [u8], k: usize, n: usize)
     requires { (k < length heads.old) × (n < lengths) × (total heads.old ≤ length bytes.old)
         × (total heads.old + n ≤ length bytes.old + len_of (get_or heads.old k 0)) }
-    ensures { Puts heads bytes k n (fitted n (get_or (texts_of heads bytes) k [])) }
+    ensures { Put heads.old bytes.old heads.new bytes.new k n (fitted n (get_or (contents heads.old bytes.old) k [])) }
 {
     let h = heads[k];
     let old = (h % LENGTHS) as usize;
@@ -83,7 +84,7 @@ pub fn resize(heads: &mut [u64], bytes: &mut [u8], k: usize, n: usize)
 pub fn write(heads: &mut [u64], bytes: &mut [u8], k: usize, text: &[u8])
     requires { (k < length heads.old) × (length text.now < lengths) × (total heads.old ≤ length bytes.old)
         × (total heads.old + length text.now ≤ length bytes.old + len_of (get_or heads.old k 0)) }
-    ensures { Puts heads bytes k (length text.now) text.now }
+    ensures { Put heads.old bytes.old heads.new bytes.new k (length text.now) text.now }
 {
     let n = text.len();
     resize(heads, bytes, k, n);
@@ -96,7 +97,7 @@ pub fn write(heads: &mut [u64], bytes: &mut [u8], k: usize, text: &[u8])
 // Frees slot k.
 pub fn clear(heads: &mut [u64], bytes: &mut [u8], k: usize)
     requires { (k < length heads.old) × (total heads.old ≤ length bytes.old) }
-    ensures { Frees heads bytes (set heads.old k 0) (set (texts_of heads bytes) k []) }
+    ensures { Freed heads.old bytes.old heads.new bytes.new (set heads.old k 0) (set (contents heads.old bytes.old) k []) }
 {
     resize(heads, bytes, k, 0);
     heads[k] = 0;
@@ -112,7 +113,7 @@ fn sweep_step(
     dst: usize,
 ) -> usize
     requires { (i < length heads.old) × (len_of (get_or heads.old i 0) ≤ src) × (src ≤ dst) × (dst ≤ length bytes.old) }
-    ensures { Steps heads bytes i keep src dst result }
+    ensures { Step heads.old bytes.old heads.new bytes.new i keep src dst result }
 {
     if keep == 0 {
         heads[i] = 0;
@@ -126,7 +127,7 @@ fn sweep_step(
 // Frees each slot whose mark is 0, in one pass from the last slot to the first.
 pub fn sweep(heads: &mut [u64], bytes: &mut [u8], marks: &[u8])
     requires { (length marks.now ≡ length heads.old) × (total heads.old ≤ length bytes.old) }
-    ensures { Frees heads bytes (swept marks.now heads.old) (swept_c marks.now (texts_of heads bytes)) }
+    ensures { Freed heads.old bytes.old heads.new bytes.new (swept marks.now heads.old) (swept_c marks.now (contents heads.old bytes.old)) }
 {
     let mut i = heads.len();
     let mut src = bytes.len();

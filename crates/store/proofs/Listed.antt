@@ -14,7 +14,7 @@ use Rattle.model.specs.Operations.Shows.{names_text}
 use Rattle.model.specs.Calls.States.{State}
 use Rattle.layout.specs.Numbers.{count_at}
 use Rattle.layout.specs.Store.{Store}
-use Rattle.layout.specs.Lent.{Slice, ◌∘◌, with_words, with_records, with_bytes}
+use Rattle.layout.specs.Lent.{◌∘◌, with_words, with_records, with_bytes}
 use Rattle.edit_room.specs.Extents.{trim}
 use Rattle.ask_find.specs.declared.Spot.{Spot}
 use Rattle.ask_list.specs.declared.Step.{Step}
@@ -25,7 +25,7 @@ use Rattle.store.specs.Listing.{listed, StepIs, SomeFitting}
 use Rattle.store.proofs.Asked.{told}
 
 -- an entry of a store that shows a state is one of a lawful store
-pub placed : (words records : Slice ℕ) (spot : Spot) → SomeEntry (with_words words ∘ with_records records) spot → Placed records.now (get_or words.now count_at 0) spot
+pub placed : (words records : List ℕ) (spot : Spot) → SomeEntry (with_words words ∘ with_records records) spot → Placed records (get_or words count_at 0) spot
 placed words records spot x =
     let u = (with_words words ∘ with_records records) x.0 in
     (u.bytes, record { store = trim u; path = x.2; records = refl; bytes = refl; counted = refl; lawful = x.3.roomy.lawful; at = x.4 })
@@ -49,8 +49,8 @@ module _ (u : Store) (s : State) (h : Shows u s) (p : Path) where
   first_told r x = step-told (listed s p) r (subst (λ (l : List (Name × Stat)). Rest (trim u) p l r) listed-told x)
 
 -- what fits in the words of the state fits in those of the store
-pub roomy : (words records bytes : Slice ℕ) (spot : Spot) (out : Bytes) → SomeFitting (with_words words ∘ with_records records ∘ with_bytes bytes) spot out
-    → Roomy records.now bytes.now (get_or words.now count_at 0) spot out
+pub roomy : (words records bytes : List ℕ) (spot : Spot) (out : Bytes) → SomeFitting (with_words words ∘ with_records records ∘ with_bytes bytes) spot out
+    → Roomy records bytes (get_or words count_at 0) spot out
 roomy words records bytes spot out x =
     let u = (with_words words ∘ with_records records ∘ with_bytes bytes) x.0 in
     record {

@@ -2,8 +2,8 @@
 ghost use Rattle.std.proofs.Math.Option.{some};
 ghost use Rattle.std.specs.Prelude.{◌≡◌, ◌<◌, take, get_or};
 ghost use Rattle.layout.specs.Numbers.{extent_at};
-ghost use Rattle.layout.specs.Lent.{◌∘◌, with_words, with_records, with_heads, with_bytes};
-ghost use Rattle.layout.specs.Lent.{◌&◌, on_words, on_records, on_heads, on_times, on_paths, on_bytes};
+ghost use Rattle.layout.specs.Lent.{◌∘◌, with_words, with_records, with_heads, with_bytes, still, with_times, with_paths};
+ghost use Rattle.layout.specs.Lent.{◌&◌, with_times, with_paths};
 ghost use Rattle.model.specs.Prog.{kind?, stat?, bare?, mask?};
 ghost use Rattle.model.specs.Calls.States.{world_of};
 ghost use Rattle.ask_entry.specs.Reads.{kind_from, stat_from, Contents, PathIs};
@@ -39,8 +39,8 @@ pub(crate) fn in_use<'a>(words: &[u64], heads: &'a [u64]) -> &'a [u64]
 
 // The root.
 pub fn root(words: &[u64]) -> Look
-    requires { Some (with_words words) }
-    ensures { Of (on_words words) (λ st s. RootIs st s result) }
+    requires { Some (with_words words.now) }
+    ensures { Of (still (with_words words.now)) (λ st s. RootIs st s result) }
 {
     ask_find::root(words[COUNT_AT] as usize)
 }
@@ -54,15 +54,16 @@ pub fn child(
     name: &[u8],
     hidden: usize,
 ) -> Look
-    requires { SomeEntry (with_words words ∘ with_records records ∘ with_bytes bytes) dir }
-    ensures { ChildIs (on_words words & on_records records & on_bytes bytes) dir name.now hidden result }
+    requires { SomeEntry (with_words words.now ∘ with_records records.now ∘ with_bytes bytes.now) dir }
+    ensures { ChildIs (still (with_words words.now ∘ with_records records.now ∘ with_bytes bytes.now)) dir name.now hidden result }
 {
     ask_find::child(records, bytes, words[COUNT_AT] as usize, dir, name, hidden)
 }
 
 // The kind of the entry at the spot: 0 for a directory, 1 for a file, 2 for a link.
 pub fn kind(words: &[u64], records: &[u64], heads: &[u64], spot: Spot) -> u8
-    ensures { (result < 3) × OfEntry (on_words words & on_records records & on_heads heads) spot (λ s p. says (kind? p) s ≡ some (kind_from result)) }
+    ensures { (result < 3) × OfEntry (still (with_words words.now ∘ with_records records.now ∘ with_heads heads.now)) spot
+        (λ s p. says (kind? p) s ≡ some (kind_from result)) }
 {
     ask_entry::entry_kind(records, in_use(words, heads), spot)
 }
@@ -70,7 +71,8 @@ pub fn kind(words: &[u64], records: &[u64], heads: &[u64], spot: Spot) -> u8
 // The metadata of the entry at the spot.
 pub fn stat(words: &[u64], records: &[u64], heads: &[u64], times: &[i64], spot: Spot) -> Stat
     ensures { (result.kind < 3)
-        × OfEntry (on_words words & on_records records & on_heads heads & on_times times) spot (λ s p. says (stat? p) s ≡ some (stat_from result)) }
+        × OfEntry (still (with_words words.now ∘ with_records records.now ∘ with_heads heads.now ∘ with_times times.now)) spot
+        (λ s p. says (stat? p) s ≡ some (stat_from result)) }
 {
     ask_entry::entry_stat(records, in_use(words, heads), times, spot)
 }
@@ -83,38 +85,39 @@ pub fn contents<'a>(
     bytes: &'a [u8],
     spot: Spot,
 ) -> &'a [u8]
-    requires { Some (with_words words ∘ with_records records ∘ with_heads heads ∘ with_bytes bytes) }
-    ensures { OfEntry (on_words words & on_records records & on_heads heads & on_bytes bytes) spot (λ s p. Contents (world_of s) p result.now) }
+    requires { Some (with_words words.now ∘ with_records records.now ∘ with_heads heads.now ∘ with_bytes bytes.now) }
+    ensures { OfEntry (still (with_words words.now ∘ with_records records.now ∘ with_heads heads.now ∘ with_bytes bytes.now)) spot
+        (λ s p. Contents (world_of s) p result.now) }
 {
     ask_entry::entry_contents(records, in_use(words, heads), bytes, spot)
 }
 
 // Whether the directory at the spot is empty.
 pub fn bare(words: &[u64], records: &[u64], spot: Spot) -> bool
-    requires { SomeEntry (with_words words ∘ with_records records) spot }
-    ensures { OfEntry (on_words words & on_records records) spot (λ s p. says (bare? p) s ≡ result) }
+    requires { SomeEntry (with_words words.now ∘ with_records records.now) spot }
+    ensures { OfEntry (still (with_words words.now ∘ with_records records.now)) spot (λ s p. says (bare? p) s ≡ result) }
 {
     ask_list::is_bare(records, words[COUNT_AT] as usize, spot)
 }
 
 // The umask.
 pub fn mask(words: &[u64]) -> u32
-    requires { Some (with_words words) }
-    ensures { Of (on_words words) (λ _ s. says mask? s ≡ result) }
+    requires { Some (with_words words.now) }
+    ensures { Of (still (with_words words.now)) (λ _ s. says mask? s ≡ result) }
 {
     words[MASK_AT] as u32
 }
 
 // The path of the current directory.
 pub fn here<'a>(words: &[u64], paths: &'a [u8]) -> &'a [u8]
-    ensures { Of (on_words words & on_paths paths) (λ _ s. PathIs s.here result.now) }
+    ensures { Of (still (with_words words.now ∘ with_paths paths.now)) (λ _ s. PathIs s.here result.now) }
 {
     ask_entry::current(words, paths)
 }
 
 // The file number n.
 pub fn open(words: &[u64], n: usize) -> Number
-    ensures { Of (on_words words) (λ _ s. NumberIs s n result) }
+    ensures { Of (still (with_words words.now)) (λ _ s. NumberIs s n result) }
 {
     match ask_entry::number_at(words, n) {
         ask_entry::Number::Closed => Number::Closed,
@@ -124,15 +127,15 @@ pub fn open(words: &[u64], n: usize) -> Number
 
 // The bytes of the file that the open number n stands on.
 pub fn held<'a>(words: &[u64], heads: &[u64], bytes: &'a [u8], n: usize) -> &'a [u8]
-    requires { Some (with_words words ∘ with_heads heads ∘ with_bytes bytes) }
-    ensures { Of (on_words words & on_heads heads & on_bytes bytes) (λ _ s. HeldIs s n result.now) }
+    requires { Some (with_words words.now ∘ with_heads heads.now ∘ with_bytes bytes.now) }
+    ensures { Of (still (with_words words.now ∘ with_heads heads.now ∘ with_bytes bytes.now)) (λ _ s. HeldIs s n result.now) }
 {
     ask_entry::held_bytes(words, in_use(words, heads), bytes, n)
 }
 
 // The path that the open number n keeps.
 pub fn kept<'a>(words: &[u64], paths: &'a [u8], n: usize) -> &'a [u8]
-    ensures { Of (on_words words & on_paths paths) (λ _ s. KeptIs s n result.now) }
+    ensures { Of (still (with_words words.now ∘ with_paths paths.now)) (λ _ s. KeptIs s n result.now) }
 {
     ask_entry::kept_path(words, paths, n)
 }

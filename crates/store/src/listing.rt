@@ -1,7 +1,7 @@
 // The entries of a directory in the model's words: one after the other, how many, and their names.
 ghost use Rattle.std.specs.Prelude.{◌≡◌, length};
-ghost use Rattle.layout.specs.Lent.{◌∘◌, with_words, with_records, with_bytes};
-ghost use Rattle.layout.specs.Lent.{◌&◌, on_words, on_records, on_bytes};
+ghost use Rattle.layout.specs.Lent.{◌∘◌, with_words, with_records, with_bytes, still};
+ghost use Rattle.layout.specs.Lent.{◌&◌};
 ghost use Rattle.store.specs.Shows.{OfEntry, SomeEntry};
 ghost use Rattle.store.specs.Listing.{listed, FirstIs, NextIs, names_of, SomeFitting, NamesPut};
 
@@ -11,40 +11,40 @@ use layout::COUNT_AT;
 
 // The first entry of the directory at the spot.
 pub fn first(words: &[u64], records: &[u64], spot: Spot) -> Step
-    requires { SomeEntry (with_words words ∘ with_records records) spot }
-    ensures { FirstIs (on_words words & on_records records) spot result }
+    requires { SomeEntry (with_words words.now ∘ with_records records.now) spot }
+    ensures { FirstIs (still (with_words words.now ∘ with_records records.now)) spot result }
 {
     ask_list::first(records, words[COUNT_AT] as usize, spot)
 }
 
 // The entry behind the one at the spot, in the same directory.
 pub fn next(words: &[u64], records: &[u64], spot: Spot) -> Step
-    requires { SomeEntry (with_words words ∘ with_records records) spot }
-    ensures { NextIs (on_words words & on_records records) spot result }
+    requires { SomeEntry (with_words words.now ∘ with_records records.now) spot }
+    ensures { NextIs (still (with_words words.now ∘ with_records records.now)) spot result }
 {
     ask_list::next(records, words[COUNT_AT] as usize, spot)
 }
 
 // How many entries the directory at the spot has.
 pub fn count(words: &[u64], records: &[u64], spot: Spot) -> usize
-    requires { SomeEntry (with_words words ∘ with_records records) spot }
-    ensures { OfEntry (on_words words & on_records records) spot (λ s p. result ≡ length (listed s p)) }
+    requires { SomeEntry (with_words words.now ∘ with_records records.now) spot }
+    ensures { OfEntry (still (with_words words.now ∘ with_records records.now)) spot (λ s p. result ≡ length (listed s p)) }
 {
     ask_list::entry_count(records, words[COUNT_AT] as usize, spot)
 }
 
 // The bytes of the names of its entries, with a zero byte behind each.
 pub fn names_length(words: &[u64], records: &[u64], spot: Spot) -> usize
-    requires { SomeEntry (with_words words ∘ with_records records) spot }
-    ensures { OfEntry (on_words words & on_records records) spot (λ s p. result ≡ length (names_of s p)) }
+    requires { SomeEntry (with_words words.now ∘ with_records records.now) spot }
+    ensures { OfEntry (still (with_words words.now ∘ with_records records.now)) spot (λ s p. result ≡ length (names_of s p)) }
 {
     ask_list::names_length(records, words[COUNT_AT] as usize, spot)
 }
 
 // Writes these names to the front of the buffer, in order.
 pub fn put_names(out: &mut [u8], words: &[u64], records: &[u64], bytes: &[u8], spot: Spot)
-    requires { SomeFitting (with_words words ∘ with_records records ∘ with_bytes bytes) spot out.old }
-    ensures { OfEntry (on_words words & on_records records & on_bytes bytes) spot (λ s p. NamesPut s p out.old out.new) }
+    requires { SomeFitting (with_words words.now ∘ with_records records.now ∘ with_bytes bytes.now) spot out.old }
+    ensures { OfEntry (still (with_words words.now ∘ with_records records.now ∘ with_bytes bytes.now)) spot (λ s p. NamesPut s p out.old out.new) }
 {
     ask_list::put_names(out, records, bytes, words[COUNT_AT] as usize, spot);
 }

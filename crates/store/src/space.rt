@@ -1,7 +1,7 @@
 // The use of space in the model's words: what is used, what goes with an entry, and whether a call has room.
 ghost use Rattle.std.specs.Prelude.{◌≡◌};
-ghost use Rattle.layout.specs.Lent.{◌∘◌, with_words, with_records, with_heads};
-ghost use Rattle.layout.specs.Lent.{◌&◌, on_words, on_records, on_heads};
+ghost use Rattle.layout.specs.Lent.{◌∘◌, with_words, with_records, with_heads, still};
+ghost use Rattle.layout.specs.Lent.{◌&◌};
 ghost use Rattle.model.specs.Tree.{links_in};
 ghost use Rattle.model.specs.Calls.States.{entries_used, bytes_used};
 ghost use Rattle.model.specs.Space.{room_for};
@@ -21,32 +21,32 @@ pub struct Weight {
 
 // The number of links.
 pub fn links(words: &[u64], records: &[u64], heads: &[u64]) -> usize
-    requires { Some (with_words words ∘ with_records records ∘ with_heads heads) }
-    ensures { Of (on_words words & on_records records & on_heads heads) (λ _ s. result ≡ links_in s.tree) }
+    requires { Some (with_words words.now ∘ with_records records.now ∘ with_heads heads.now) }
+    ensures { Of (still (with_words words.now ∘ with_records records.now ∘ with_heads heads.now)) (λ _ s. result ≡ links_in s.tree) }
 {
     ask_used::links_in(records, in_use(words, heads), words[COUNT_AT] as usize)
 }
 
 // The entries used.
 pub fn entries(words: &[u64]) -> usize
-    requires { Some (with_words words) }
-    ensures { Of (on_words words) (λ _ s. result ≡ entries_used s) }
+    requires { Some (with_words words.now) }
+    ensures { Of (still (with_words words.now)) (λ _ s. result ≡ entries_used s) }
 {
     words[COUNT_AT] as usize
 }
 
 // The bytes used.
 pub fn used(words: &[u64], records: &[u64], heads: &[u64]) -> usize
-    requires { Some (with_words words ∘ with_records records ∘ with_heads heads) }
-    ensures { Of (on_words words & on_records records & on_heads heads) (λ _ s. result ≡ bytes_used s) }
+    requires { Some (with_words words.now ∘ with_records records.now ∘ with_heads heads.now) }
+    ensures { Of (still (with_words words.now ∘ with_records records.now ∘ with_heads heads.now)) (λ _ s. result ≡ bytes_used s) }
 {
     ask_used::bytes_used(words, records, in_use(words, heads))
 }
 
 // What the entry at the spot takes up. A file that a number is open on keeps its contents.
 pub fn weigh(words: &[u64], records: &[u64], heads: &[u64], spot: Spot) -> Weight
-    requires { SomeEntry (with_words words ∘ with_records records ∘ with_heads heads) spot }
-    ensures { OfEntry (on_words words & on_records records & on_heads heads) spot (λ s p. WeightIs s p result) }
+    requires { SomeEntry (with_words words.now ∘ with_records records.now ∘ with_heads heads.now) spot }
+    ensures { OfEntry (still (with_words words.now ∘ with_records records.now ∘ with_heads heads.now)) spot (λ s p. WeightIs s p result) }
 {
     let w = ask_used::weigh(words, records, in_use(words, heads), spot);
     if w.held {
@@ -72,8 +72,8 @@ pub fn room_for(
     grown: u64,
     freed: u64,
 ) -> u32
-    requires { Some (with_words words ∘ with_records records ∘ with_heads heads) }
-    ensures { Of (on_words words & on_records records & on_heads heads) (λ _ s. result ≡ room_for s more grown freed) }
+    requires { Some (with_words words.now ∘ with_records records.now ∘ with_heads heads.now) }
+    ensures { Of (still (with_words words.now ∘ with_records records.now ∘ with_heads heads.now)) (λ _ s. result ≡ room_for s more grown freed) }
 {
     if words[MOST_AT] - words[COUNT_AT] < more as u64 {
         return 15;

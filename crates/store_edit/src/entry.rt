@@ -36,10 +36,11 @@ fn insert(
     t: i64,
     text: &[u8],
 ) -> Spot
-    requires { SomeState (with_words words ∘ with_records records ∘ with_heads heads ∘ with_times times ∘ with_bytes bytes)
+    requires { SomeState (with_words words.old ∘ with_records records.old ∘ with_heads heads.old ∘ with_times times.old ∘ with_bytes bytes.old)
         (λ st s. (d : Path) × MayMake name.now gap (λ p. insertion kind p mode t text.now) st s d)
         × T (name_ok name.now) × Holds kind text.now }
-    ensures { On (on_words words & on_records records & on_heads heads & on_times times & on_bytes bytes)
+    ensures { On (on_words words.old words.new & on_records records.old records.new & on_heads heads.old heads.new & on_times times.old times.new
+        & on_bytes bytes.old bytes.new)
         (Makes name.now gap (λ p. insertion kind p mode t text.now) result) }
 {
     let at = gap.at;
@@ -76,9 +77,10 @@ pub fn make(
     mode: u32,
     t: i64,
 ) -> Spot
-    requires { SomeState (with_words words ∘ with_records records ∘ with_heads heads ∘ with_times times ∘ with_bytes bytes)
+    requires { SomeState (with_words words.old ∘ with_records records.old ∘ with_heads heads.old ∘ with_times times.old ∘ with_bytes bytes.old)
         (λ st s. (d : Path) × MayMake name.now gap (λ p. make-at p (fresh mode t)) st s d) × T (name_ok name.now) }
-    ensures { On (on_words words & on_records records & on_heads heads & on_times times & on_bytes bytes)
+    ensures { On (on_words words.old words.new & on_records records.old records.new & on_heads heads.old heads.new & on_times times.old times.new
+        & on_bytes bytes.old bytes.new)
         (Makes name.now gap (λ p. make-at p (fresh mode t)) result) }
 {
     let nothing = [0u8; 1];
@@ -101,10 +103,11 @@ pub fn create(
     t: i64,
     contents: &[u8],
 ) -> Spot
-    requires { SomeState (with_words words ∘ with_records records ∘ with_heads heads ∘ with_times times ∘ with_bytes bytes)
+    requires { SomeState (with_words words.old ∘ with_records records.old ∘ with_heads heads.old ∘ with_times times.old ∘ with_bytes bytes.old)
         (λ st s. (d : Path) × MayMake name.now gap (λ p. create-at p (record { meta = fresh mode t; bytes = contents.now })) st s d)
         × T (name_ok name.now) }
-    ensures { On (on_words words & on_records records & on_heads heads & on_times times & on_bytes bytes)
+    ensures { On (on_words words.old words.new & on_records records.old records.new & on_heads heads.old heads.new & on_times times.old times.new
+        & on_bytes bytes.old bytes.new)
         (Makes name.now gap (λ p. create-at p (record { meta = fresh mode t; bytes = contents.now })) result) }
 {
     insert(
@@ -125,10 +128,11 @@ pub fn symlink(
     t: i64,
     target: &[u8],
 ) -> Spot
-    requires { SomeState (with_words words ∘ with_records records ∘ with_heads heads ∘ with_times times ∘ with_bytes bytes)
+    requires { SomeState (with_words words.old ∘ with_records records.old ∘ with_heads heads.old ∘ with_times times.old ∘ with_bytes bytes.old)
         (λ st s. (d : Path) × MayMake name.now gap (λ p. symlink-at p (fresh mode t) target.now) st s d)
         × T (name_ok name.now) × T (target_ok target.now) }
-    ensures { On (on_words words & on_records records & on_heads heads & on_times times & on_bytes bytes)
+    ensures { On (on_words words.old words.new & on_records records.old records.new & on_heads heads.old heads.new & on_times times.old times.new
+        & on_bytes bytes.old bytes.new)
         (Makes name.now gap (λ p. symlink-at p (fresh mode t) target.now) result) }
 {
     insert(
@@ -146,9 +150,10 @@ pub fn make_root(
     mode: u32,
     t: i64,
 ) -> Spot
-    requires { SomeState (with_words words ∘ with_records records ∘ with_heads heads ∘ with_times times ∘ with_bytes bytes)
+    requires { SomeState (with_words words.old ∘ with_records records.old ∘ with_heads heads.old ∘ with_times times.old ∘ with_bytes bytes.old)
         (λ st s. MayMakeRoot (fresh mode t) s) }
-    ensures { On (on_words words & on_records records & on_heads heads & on_times times & on_bytes bytes) (MakesRoot (fresh mode t) result) }
+    ensures { On (on_words words.old words.new & on_records records.old records.new & on_heads heads.old heads.new & on_times times.old times.new
+        & on_bytes bytes.old bytes.new) (MakesRoot (fresh mode t) result) }
 {
     edit_room::reserve(words, heads);
     let slots = words[EXTENT_AT] as usize;
@@ -165,9 +170,10 @@ pub fn remove(
     bytes: &mut [u8],
     spot: Spot,
 )
-    requires { SomeState (with_words words ∘ with_records records ∘ with_heads heads ∘ with_bytes bytes)
+    requires { SomeState (with_words words.old ∘ with_records records.old ∘ with_heads heads.old ∘ with_bytes bytes.old)
         (λ st s. (d : Path) × (x : Name) × Stands st spot (d ++ (x ∷ []))) }
-    ensures { On (on_words words & on_records records & on_heads heads & on_bytes bytes) (Removes spot) }
+    ensures { On (on_words words.old words.new & on_records records.old records.new & on_heads heads.old heads.new
+        & on_bytes bytes.old bytes.new) (Removes spot) }
 {
     let i = spot.at;
     let e = ask_find::block_end(records, words[COUNT_AT] as usize, i);
@@ -189,10 +195,11 @@ pub fn relink(
     t: i64,
     target: &[u8],
 ) -> Spot
-    requires { SomeState (with_words words ∘ with_records records ∘ with_heads heads ∘ with_times times ∘ with_bytes bytes)
+    requires { SomeState (with_words words.old ∘ with_records records.old ∘ with_heads heads.old ∘ with_times times.old ∘ with_bytes bytes.old)
         (λ st s. (d : Path) × Stands st spot (d ++ (name.now ∷ [])) × MayReplace (fresh mode t) target.now s (d ++ (name.now ∷ [])))
         × T (name_ok name.now) × T (target_ok target.now) }
-    ensures { On (on_words words & on_records records & on_heads heads & on_times times & on_bytes bytes)
+    ensures { On (on_words words.old words.new & on_records records.old records.new & on_heads heads.old heads.new & on_times times.old times.new
+        & on_bytes bytes.old bytes.new)
         (Replaces spot name.now (fresh mode t) target.now result) }
 {
     let at = spot.at;

@@ -1,7 +1,7 @@
 // An entry is moved, with all below it, or put below a new directory in its place.
 ghost use Rattle.std.specs.Prelude.{T};
 ghost use Rattle.model.specs.Rules.{name_ok};
-ghost use Rattle.layout.specs.Lent.{◌∘◌, with_words, with_records, with_heads, with_times, with_bytes};
+ghost use Rattle.layout.specs.Lent.{◌∘◌, with_words, with_records, with_heads, with_times, with_bytes, still};
 ghost use Rattle.layout.specs.Lent.{◌&◌, on_words, on_records, on_heads, on_times, on_bytes, On};
 ghost use Rattle.store_edit.specs.Turns.{SomeSpot};
 ghost use Rattle.store_edit.specs.Moves.{SomeMove, Moves, MayNestAt, Nests, SomeFree, NestsFree};
@@ -18,8 +18,8 @@ pub fn move_to(
     gap: Gap,
     name: &[u8],
 )
-    requires { SomeMove (with_words words ∘ with_records records ∘ with_bytes bytes) spot gap name.now × T (name_ok name.now) }
-    ensures { On (on_words words & on_records records & on_bytes bytes) (Moves spot gap name.now) }
+    requires { SomeMove (with_words words.now ∘ with_records records.old ∘ with_bytes bytes.old) spot gap name.now × T (name_ok name.now) }
+    ensures { On (still (with_words words.now) & on_records records.old records.new & on_bytes bytes.old bytes.new) (Moves spot gap name.now) }
 {
     let i = spot.at;
     let end = block_end(records, words[COUNT_AT] as usize, i);
@@ -38,9 +38,11 @@ fn nest_free(
     mode: u32,
     t: i64,
 ) -> Spot
-    requires { SomeFree (with_words words ∘ with_records records ∘ with_heads heads ∘ with_times times ∘ with_bytes bytes) spot name.now mode t
+    requires { SomeFree (with_words words.old ∘ with_records records.old ∘ with_heads heads.old ∘ with_times times.old
+        ∘ with_bytes bytes.old) spot name.now mode t
         × T (name_ok name.now) }
-    ensures { On (on_words words & on_records records & on_heads heads & on_times times & on_bytes bytes)
+    ensures { On (on_words words.old words.new & on_records records.old records.new & on_heads heads.old heads.new & on_times times.old times.new
+        & on_bytes bytes.old bytes.new)
         (NestsFree spot name.now mode t result) }
 {
     let i = spot.at;
@@ -74,9 +76,10 @@ pub fn nest(
     mode: u32,
     t: i64,
 ) -> Spot
-    requires { SomeSpot (with_words words ∘ with_records records ∘ with_heads heads ∘ with_times times ∘ with_bytes bytes) spot
+    requires { SomeSpot (with_words words.old ∘ with_records records.old ∘ with_heads heads.old ∘ with_times times.old ∘ with_bytes bytes.old) spot
         (MayNestAt name.now mode t) × T (name_ok name.now) }
-    ensures { On (on_words words & on_records records & on_heads heads & on_times times & on_bytes bytes)
+    ensures { On (on_words words.old words.new & on_records records.old records.new & on_heads heads.old heads.new & on_times times.old times.new
+        & on_bytes bytes.old bytes.new)
         (Nests spot name.now mode t result) }
 {
     edit_room::reserve(words, heads);

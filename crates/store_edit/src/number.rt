@@ -6,8 +6,8 @@ ghost use Rattle.text.specs.Utf8.{Bytes};
 ghost use Rattle.model.specs.Calls.Performing.{given_if};
 ghost use Rattle.layout.specs.Numbers.{file_numbers, holder_at};
 ghost use Rattle.layout.specs.Lawful.{cell_ok};
-ghost use Rattle.layout.specs.Lent.{◌∘◌, with_words, with_records, with_heads, with_times, with_paths, with_bytes};
-ghost use Rattle.layout.specs.Lent.{◌&◌, on_words, on_records, on_heads, on_times, on_paths, on_bytes, On};
+ghost use Rattle.layout.specs.Lent.{◌∘◌, with_words, with_records, with_heads, with_times, with_paths, with_bytes, still};
+ghost use Rattle.layout.specs.Lent.{◌&◌, on_words, on_heads, on_times, on_paths, on_bytes, On};
 ghost use Rattle.store_edit.specs.Turns.{SomeState, SomeSpot, NumberOpen, TurnsHeld, MayOpenOn, Opens, MayResize, Resizes};
 
 use ask_find::Spot;
@@ -23,9 +23,9 @@ pub fn opens(
     pos: u64,
     path: &[u8],
 )
-    requires { SomeSpot (with_words words ∘ with_records records ∘ with_paths paths) spot (MayOpenOn n path.now)
+    requires { SomeSpot (with_words words.old ∘ with_records records.now ∘ with_paths paths.old) spot (MayOpenOn n path.now)
         × T (cell_ok path.now) × (n < file_numbers) }
-    ensures { On (on_words words & on_records records & on_paths paths) (Opens spot n pos path.now) }
+    ensures { On (on_words words.old words.new & still (with_records records.now) & on_paths paths.old paths.new) (Opens spot n pos path.now) }
 {
     let i = spot.at;
     edit_state::open_number(words, paths, n, slot_of(records[i]), pos, path);
@@ -33,8 +33,9 @@ pub fn opens(
 
 // Closes the open number n. A file without a name goes with its last number.
 pub fn close(words: &mut [u64], records: &[u64], heads: &mut [u64], bytes: &mut [u8], n: usize)
-    requires { SomeState (with_words words ∘ with_records records ∘ with_heads heads ∘ with_bytes bytes) (λ st s. NumberOpen n s) }
-    ensures { On (on_words words & on_records records & on_heads heads & on_bytes bytes) (TurnsHeld n (close-it n)) }
+    requires { SomeState (with_words words.old ∘ with_records records.now ∘ with_heads heads.old ∘ with_bytes bytes.old) (λ st s. NumberOpen n s) }
+    ensures { On (on_words words.old words.new & still (with_records records.now) & on_heads heads.old heads.new
+        & on_bytes bytes.old bytes.new) (TurnsHeld n (close-it n)) }
 {
     let slots = words[EXTENT_AT] as usize;
     edit_state::close_number(words, records, &mut heads[..slots], bytes, n);
@@ -43,7 +44,7 @@ pub fn close(words: &mut [u64], records: &[u64], heads: &mut [u64], bytes: &mut 
 
 // The slot of the file that the open number n stands on.
 fn held_slot(words: &[u64], n: usize) -> usize
-    requires { SomeState (with_words words) (λ st s. NumberOpen n s) }
+    requires { SomeState (with_words words.now) (λ st s. NumberOpen n s) }
     ensures { (n < file_numbers) × (get_or words.now (holder_at n) 0 ≡ suc result) }
 {
     (words[HOLDER_AT + NUMBER_WORDS * n] - 1) as usize
@@ -51,8 +52,8 @@ fn held_slot(words: &[u64], n: usize) -> usize
 
 // The mode of its file.
 pub fn chmod_held(words: &[u64], heads: &mut [u64], n: usize, m: u32)
-    requires { SomeState (with_words words ∘ with_heads heads) (λ st s. NumberOpen n s) }
-    ensures { On (on_words words & on_heads heads) (TurnsHeld n (change_held n (chmod m))) }
+    requires { SomeState (with_words words.now ∘ with_heads heads.old) (λ st s. NumberOpen n s) }
+    ensures { On (still (with_words words.now) & on_heads heads.old heads.new) (TurnsHeld n (change_held n (chmod m))) }
 {
     let slots = words[EXTENT_AT] as usize;
     edit_slot::set_mode(&mut heads[..slots], held_slot(words, n), m);
@@ -68,8 +69,8 @@ pub fn touch_held(
     modify: bool,
     t: i64,
 )
-    requires { SomeState (with_words words ∘ with_times times) (λ st s. NumberOpen n s) }
-    ensures { On (on_words words & on_times times)
+    requires { SomeState (with_words words.now ∘ with_times times.old) (λ st s. NumberOpen n s) }
+    ensures { On (still (with_words words.now) & on_times times.old times.new)
         (TurnsHeld n (change_held n (touch_some (given_if access a) (given_if modify t)))) }
 {
     edit_slot::set_some_times(times, held_slot(words, n), access, a, modify, t);
@@ -77,8 +78,8 @@ pub fn touch_held(
 
 // Its file is cut to so many bytes, or extended by zeros.
 pub fn resize_held(words: &[u64], heads: &mut [u64], bytes: &mut [u8], n: usize, size: usize)
-    requires { SomeState (with_words words ∘ with_heads heads ∘ with_bytes bytes) (λ st s. (b : Bytes) × MayResize n size b s) }
-    ensures { On (on_words words & on_heads heads & on_bytes bytes) (Resizes n size) }
+    requires { SomeState (with_words words.now ∘ with_heads heads.old ∘ with_bytes bytes.old) (λ st s. (b : Bytes) × MayResize n size b s) }
+    ensures { On (still (with_words words.now) & on_heads heads.old heads.new & on_bytes bytes.old bytes.new) (Resizes n size) }
 {
     let slots = words[EXTENT_AT] as usize;
     edit_slot::set_length(&mut heads[..slots], bytes, held_slot(words, n), size);

@@ -1,8 +1,8 @@
 // What stands at a spot is changed: its mode, its times, the bytes of a file.
 ghost use Rattle.model.specs.Prog.{change};
 ghost use Rattle.model.specs.Tree.{chmod as with_mode, touch as with-times};
-ghost use Rattle.layout.specs.Lent.{◌∘◌, with_words, with_records, with_heads, with_times, with_bytes};
-ghost use Rattle.layout.specs.Lent.{◌&◌, on_words, on_records, on_heads, on_times, on_bytes, On};
+ghost use Rattle.layout.specs.Lent.{◌∘◌, with_words, with_records, with_heads, with_times, with_bytes, still};
+ghost use Rattle.layout.specs.Lent.{◌&◌, on_heads, on_times, on_bytes, On};
 ghost use Rattle.store.specs.Shows.{SomeEntry};
 ghost use Rattle.store_edit.specs.Turns.{SomeSpot, TurnsAt, MayWrite, Writes};
 
@@ -11,8 +11,9 @@ use layout::{EXTENT_AT, slot_of};
 
 // The mode of a directory, a file or a link.
 pub fn chmod(words: &[u64], records: &[u64], heads: &mut [u64], spot: Spot, m: u32)
-    requires { SomeEntry (with_words words ∘ with_records records ∘ with_heads heads) spot }
-    ensures { On (on_words words & on_records records & on_heads heads) (TurnsAt spot (λ p. change p (with_mode m))) }
+    requires { SomeEntry (with_words words.now ∘ with_records records.now ∘ with_heads heads.old) spot }
+    ensures { On (still (with_words words.now ∘ with_records records.now)
+        & on_heads heads.old heads.new) (TurnsAt spot (λ p. change p (with_mode m))) }
 {
     let i = spot.at;
     let slot = slot_of(records[i]);
@@ -22,8 +23,8 @@ pub fn chmod(words: &[u64], records: &[u64], heads: &mut [u64], spot: Spot, m: u
 
 // The first time for accessed, changed and created, the second for modified.
 pub fn touch(records: &[u64], times: &mut [i64], spot: Spot, a: i64, t: i64)
-    requires { SomeEntry (with_records records ∘ with_times times) spot }
-    ensures { On (on_records records & on_times times) (TurnsAt spot (λ p. change p (with-times a t))) }
+    requires { SomeEntry (with_records records.now ∘ with_times times.old) spot }
+    ensures { On (still (with_records records.now) & on_times times.old times.new) (TurnsAt spot (λ p. change p (with-times a t))) }
 {
     let i = spot.at;
     edit_slot::set_times(times, slot_of(records[i]), a, t);
@@ -40,9 +41,10 @@ pub fn write(
     contents: &[u8],
     t: i64,
 )
-    requires { SomeSpot (with_words words ∘ with_records records ∘ with_heads heads ∘ with_times times ∘ with_bytes bytes) spot
+    requires { SomeSpot (with_words words.now ∘ with_records records.now ∘ with_heads heads.old ∘ with_times times.old ∘ with_bytes bytes.old) spot
         (MayWrite contents.now t) }
-    ensures { On (on_words words & on_records records & on_heads heads & on_times times & on_bytes bytes)
+    ensures { On (still (with_words words.now ∘ with_records records.now) & on_heads heads.old heads.new & on_times times.old times.new
+        & on_bytes bytes.old bytes.new)
         (Writes spot contents.now t) }
 {
     let i = spot.at;

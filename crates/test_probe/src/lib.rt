@@ -3,7 +3,7 @@
 ghost use Rattle.std.specs.Prelude.{◌≡◌, cond, ◌++◌, ◌+◌, ◌≤◌, eqb, length, take, drop};
 ghost use Rattle.text.specs.Utf8.{text};
 ghost use Rattle.path.specs.Path.{names, normal, absolute, body, lengths_ok};
-ghost use Rattle.layout.specs.Lent.{before};
+ghost use Rattle.layout.specs.Lent.{lends};
 ghost use Rattle.layout.specs.Lawful.{Passes};
 ghost use Rattle.lawful_limits.specs.Settles.{Settles};
 ghost use Rattle.test_probe.specs.Numbers.{Answers, LastAt, NameAnswers, FollowAnswers, Behind, number_of, which_of, from_of, to_of};
@@ -205,7 +205,7 @@ pub extern "C" fn probe_store(
     paths: &[u8],
     bytes: &[u8],
 ) -> u32
-    ensures { Settles (eqb result 0) (Passes (before words records heads times paths bytes)) × (result ≤ 1) }
+    ensures { Settles (eqb result 0) (Passes (lends words.now records.now heads.now times.now paths.now bytes.now)) × (result ≤ 1) }
 {
     if store_ok(words, records, heads, times, paths, bytes) {
         return 0;

@@ -1,7 +1,7 @@
 // What the edits ask of a store.
 ghost use Rattle.std.specs.Prelude.{true, ◌≡◌, ◌<◌};
 ghost use Rattle.layout.specs.Numbers.{lengths};
-ghost use Rattle.layout.specs.Lent.{lends, before};
+ghost use Rattle.layout.specs.Lent.{lends};
 ghost use Rattle.layout.specs.Lawful.{Lawful};
 ghost use Rattle.edit_room.specs.Extents.{Roomy};
 ghost use Rattle.test_tried.specs.Tried.{Whole, Fits};
@@ -52,7 +52,7 @@ pub fn ready(
     paths: &[u8],
     bytes: &[u8],
 ) -> bool
-    ensures { result ≡ true → Roomy (before words records heads times paths bytes) }
+    ensures { result ≡ true → Roomy (lends words.now records.now heads.now times.now paths.now bytes.now) }
 {
     if !whole(
         words,
@@ -78,8 +78,8 @@ pub fn room_for(
     free: usize,
     n: usize,
 ) -> bool
-    requires { Lawful (lends words records heads times paths bytes) × (free < lengths) }
-    ensures { result ≡ true → Fits (before words records heads times paths bytes) free n }
+    requires { Lawful (lends words.now records.now heads.now times.now paths.now bytes.now) × (free < lengths) }
+    ensures { result ≡ true → Fits (lends words.now records.now heads.now times.now paths.now bytes.now) free n }
 {
     if 16777216 < n {
         return false;

@@ -1,6 +1,6 @@
 // Entries put in and taken out.
 ghost use Rattle.std.specs.Prelude.{◌<◌, get_or};
-ghost use Rattle.layout.specs.Lent.{lends, after};
+ghost use Rattle.layout.specs.Lent.{lends};
 ghost use Rattle.layout.specs.Lawful.{Lawful};
 ghost use Rattle.slots.specs.Free.{HasFree};
 ghost use Rattle.edit_room.specs.Extents.{Roomy};
@@ -47,8 +47,9 @@ fn insert_exact(
     t: i64,
     text: &[u8],
 ) -> bool
-    requires { Lawful (lends words records heads times paths bytes) × (get_or words.old 2 0 < get_or words.old 0 0 → HasFree heads.old) }
-    ensures { Lawful (after words records heads times paths bytes) }
+    requires { Lawful
+        (lends words.old records.old heads.old times.old paths.now bytes.old) × (get_or words.old 2 0 < get_or words.old 0 0 → HasFree heads.old) }
+    ensures { Lawful (lends words.new records.new heads.new times.new paths.now bytes.new) }
 {
     let spot = spot_for(words, records, heads, times, paths, bytes, dir, name);
     let at = spot.at;
@@ -80,8 +81,8 @@ pub fn insert_in(
     t: i64,
     text: &[u8],
 ) -> bool
-    requires { Roomy (lends words records heads times paths bytes) }
-    ensures { Roomy (after words records heads times paths bytes) }
+    requires { Roomy (lends words.old records.old heads.old times.old paths.now bytes.old) }
+    ensures { Roomy (lends words.new records.new heads.new times.new paths.now bytes.new) }
 {
     edit_room::reserve(words, heads);
     let slots = words[EXTENT_AT] as usize;
@@ -135,8 +136,8 @@ fn remove_exact(
     bytes: &mut [u8],
     i: usize,
 ) -> bool
-    requires { Lawful (lends words records heads times paths bytes) }
-    ensures { Lawful (after words records heads times paths bytes) }
+    requires { Lawful (lends words.old records.old heads.old times.now paths.now bytes.old) }
+    ensures { Lawful (lends words.new records.new heads.new times.now paths.now bytes.new) }
 {
     if i == 0 {
         return false;
@@ -160,8 +161,8 @@ pub fn remove_in(
     bytes: &mut [u8],
     i: usize,
 ) -> bool
-    requires { Roomy (lends words records heads times paths bytes) }
-    ensures { Roomy (after words records heads times paths bytes) }
+    requires { Roomy (lends words.old records.old heads.old times.now paths.now bytes.old) }
+    ensures { Roomy (lends words.new records.new heads.new times.now paths.now bytes.new) }
 {
     let slots = words[EXTENT_AT] as usize;
     let gone = remove_exact(words, records, &mut heads[..slots], times, paths, bytes, i);

@@ -1,6 +1,6 @@
 // An entry moved, with all below it.
 ghost use Rattle.std.specs.Prelude.{true, ◌≡◌, ◌<◌, ◌≤◌};
-ghost use Rattle.layout.specs.Lent.{lends, before};
+ghost use Rattle.layout.specs.Lent.{lends};
 ghost use Rattle.layout.specs.Lawful.{Lawful};
 ghost use Rattle.edit_entry.specs.Movement.{Movable};
 ghost use Rattle.test_tried.specs.Tried.{Renamable};
@@ -20,8 +20,8 @@ fn may_rename(
     i: usize,
     n: usize,
 ) -> bool
-    requires { Lawful (lends words records heads times paths bytes) }
-    ensures { result ≡ true → Renamable (before words records heads times paths bytes) i n }
+    requires { Lawful (lends words.now records.now heads.now times.now paths.now bytes.now) }
+    ensures { result ≡ true → Renamable (lends words.now records.now heads.now times.now paths.now bytes.now) i n }
 {
     if i == 0 {
         return false;
@@ -71,9 +71,9 @@ fn way_to(
     dir: usize,
     name: &[u8],
 ) -> Way
-    requires { Lawful (lends words records heads times paths bytes) }
+    requires { Lawful (lends words.now records.now heads.now times.now paths.now bytes.now) }
     ensures { (result.at ≡ 0 → ⊥)
-        → Movable (before words records heads times paths bytes) i result.end result.at result.depth name.now }
+        → Movable (lends words.now records.now heads.now times.now paths.now bytes.now) i result.end result.at result.depth name.now }
 {
     if !may_rename(words, records, heads, times, paths, bytes, i, name.len()) {
         return Way {

@@ -1,10 +1,10 @@
 // A file number opened, by a path.
-ghost use Rattle.std.specs.Prelude.{[], ◌∷◌, ◌++◌, ◌≡◌, ◌-◌, ◌<◌, ◌≤◌, T, length, get_or};
+ghost use Rattle.std.specs.Prelude.{[], ◌∷◌, ◌++◌, ◌≡◌, ◌-◌, ◌<◌, ◌≤◌, T, length};
 ghost use Rattle.std.proofs.Math.Option.{some};
 ghost use Rattle.path.specs.Path.{names, pieces};
 ghost use Rattle.model.specs.Tree.{file, look};
 ghost use Rattle.layout.specs.Store.{count, state};
-ghost use Rattle.layout.specs.Lent.{lends, before};
+ghost use Rattle.layout.specs.Lent.{lends};
 ghost use Rattle.layout.specs.Lawful.{Lawful, cell_ok};
 ghost use Rattle.ask_find.specs.Paths.{path_at};
 
@@ -25,10 +25,11 @@ fn child(
     dir: usize,
     name: &[u8],
 ) -> usize
-    requires { Lawful (lends words records heads times paths bytes) }
-    ensures { result < count (before words records heads times paths bytes)
-        → (dir < count (before words records heads times paths bytes))
-        × (path_at (before words records heads times paths bytes) result ≡ path_at (before words records heads times paths bytes) dir ++
+    requires { Lawful (lends words.now records.now heads.now times.now paths.now bytes.now) }
+    ensures { result < count (lends words.now records.now heads.now times.now paths.now bytes.now)
+        → (dir < count (lends words.now records.now heads.now times.now paths.now bytes.now))
+        × (path_at (lends words.now records.now heads.now times.now paths.now bytes.now) result ≡ path_at
+            (lends words.now records.now heads.now times.now paths.now bytes.now) dir ++
         (name.now ∷ [])) }
 {
     let count = words[COUNT_AT] as usize;
@@ -52,9 +53,9 @@ fn walk(
     bytes: &[u8],
     path: &[u8],
 ) -> usize
-    requires { Lawful (lends words records heads times paths bytes) }
-    ensures { result < count (before words records heads times paths bytes)
-        → pieces path.now ≡ [] ∷ path_at (before words records heads times paths bytes) result }
+    requires { Lawful (lends words.now records.now heads.now times.now paths.now bytes.now) }
+    ensures { result < count (lends words.now records.now heads.now times.now paths.now bytes.now)
+        → pieces path.now ≡ [] ∷ path_at (lends words.now records.now heads.now times.now paths.now bytes.now) result }
 {
     let mut i = 0;
     let mut e = 0;
@@ -79,9 +80,9 @@ fn file_slot(
     bytes: &[u8],
     path: &[u8],
 ) -> usize
-    requires { Lawful (lends words records heads times paths bytes) × T (cell_ok path.now) }
+    requires { Lawful (lends words.now records.now heads.now times.now paths.now bytes.now) × T (cell_ok path.now) }
     ensures { result < length heads.now
-        → look (state (before words records heads times paths bytes)).tree (names path.now) ≡ some (file result) }
+        → look (state (lends words.now records.now heads.now times.now paths.now bytes.now)).tree (names path.now) ≡ some (file result) }
 {
     let i = walk(words, records, heads, times, paths, bytes, path);
     if words[COUNT_AT] as usize <= i {

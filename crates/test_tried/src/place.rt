@@ -3,7 +3,7 @@ ghost use Rattle.std.specs.Prelude.{true, ◌≡◌, ◌<◌, ◌≤◌, T, leng
 ghost use Rattle.model.specs.Tree.{Path};
 ghost use Rattle.model.specs.Rules.{name_ok};
 ghost use Rattle.layout.specs.Store.{count, kind_at};
-ghost use Rattle.layout.specs.Lent.{lends, before};
+ghost use Rattle.layout.specs.Lent.{lends};
 ghost use Rattle.layout.specs.Lawful.{Lawful};
 ghost use Rattle.ask_find.specs.Paths.{slot_at};
 ghost use Rattle.edit_entry.specs.Insertion.{Vacancy, Holds, Insertable};
@@ -34,9 +34,10 @@ pub fn is_dir(
     bytes: &[u8],
     i: usize,
 ) -> bool
-    requires { Lawful (lends words records heads times paths bytes) }
-    ensures { result ≡ true → (i < count (before words records heads times paths bytes))
-        × (kind_at (before words records heads times paths bytes) (slot_at (before words records heads times paths bytes) i) ≡ 1) }
+    requires { Lawful (lends words.now records.now heads.now times.now paths.now bytes.now) }
+    ensures { result ≡ true → (i < count (lends words.now records.now heads.now times.now paths.now bytes.now))
+        × (kind_at (lends words.now records.now heads.now times.now paths.now bytes.now) (slot_at
+            (lends words.now records.now heads.now times.now paths.now bytes.now) i) ≡ 1) }
 {
     if words[COUNT_AT] as usize <= i {
         return false;
@@ -67,8 +68,9 @@ pub fn spot_in(
     dir: usize,
     name: &[u8],
 ) -> Gap
-    requires { Lawful (lends words records heads times paths bytes) }
-    ensures { (result.at ≡ 0 → ⊥) → Spotted (before words records heads times paths bytes) dir result.at result.depth name.now }
+    requires { Lawful (lends words.now records.now heads.now times.now paths.now bytes.now) }
+    ensures { (result.at ≡ 0 → ⊥) → Spotted
+        (lends words.now records.now heads.now times.now paths.now bytes.now) dir result.at result.depth name.now }
 {
     if !is_dir(words, records, heads, times, paths, bytes, dir) {
         return nowhere();
@@ -95,9 +97,9 @@ pub fn spot_for(
     dir: usize,
     name: &[u8],
 ) -> Gap
-    requires { Lawful (lends words records heads times paths bytes) }
+    requires { Lawful (lends words.now records.now heads.now times.now paths.now bytes.now) }
     ensures { (result.at ≡ 0 → ⊥)
-        → (q : Path) × Vacancy (before words records heads times paths bytes) result.at result.depth q name.now }
+        → (q : Path) × Vacancy (lends words.now records.now heads.now times.now paths.now bytes.now) result.at result.depth q name.now }
 {
     spot_in(words, records, heads, times, paths, bytes, dir, name)
 }
@@ -130,8 +132,8 @@ pub fn insertable(
     kind: u64,
     text: &[u8],
 ) -> bool
-    requires { Lawful (lends words records heads times paths bytes) × (length name.now ≤ 255) }
-    ensures { result ≡ true → Insertable (before words records heads times paths bytes) name.now kind text.now }
+    requires { Lawful (lends words.now records.now heads.now times.now paths.now bytes.now) × (length name.now ≤ 255) }
+    ensures { result ≡ true → Insertable (lends words.now records.now heads.now times.now paths.now bytes.now) name.now kind text.now }
 {
     if records.len() <= words[COUNT_AT] as usize {
         return false;

@@ -2,7 +2,7 @@
 ghost use Rattle.std.specs.Prelude.{◌≡◌, ◌≤◌, ◌<◌, length, get_or};
 ghost use Rattle.layout.specs.Numbers.{word_count};
 ghost use Rattle.layout.specs.Fields.{slot_of};
-ghost use Rattle.layout.specs.Lent.{lends, after};
+ghost use Rattle.layout.specs.Lent.{lends};
 ghost use Rattle.layout.specs.Lawful.{Lawful};
 ghost use Rattle.edit_room.specs.Extents.{Roomy};
 
@@ -102,8 +102,8 @@ fn contents_exact(
     text: &[u8],
     t: i64,
 ) -> bool
-    requires { Lawful (lends words records heads times paths bytes) }
-    ensures { Lawful (after words records heads times paths bytes) }
+    requires { Lawful (lends words.now records.now heads.old times.old paths.now bytes.old) }
+    ensures { Lawful (lends words.now records.now heads.new times.new paths.now bytes.new) }
 {
     let slot = slot_at(words, records, heads.len(), i);
     if heads.len() <= slot {
@@ -141,8 +141,8 @@ pub fn contents_in(
     text: &[u8],
     t: i64,
 ) -> bool
-    requires { Roomy (lends words records heads times paths bytes) }
-    ensures { Roomy (after words records heads times paths bytes) }
+    requires { Roomy (lends words.now records.now heads.old times.old paths.now bytes.old) }
+    ensures { Roomy (lends words.now records.now heads.new times.new paths.now bytes.new) }
 {
     let slots = words[EXTENT_AT] as usize;
     contents_exact(
@@ -186,7 +186,7 @@ fn length_exact(
     i: usize,
     n: usize,
 ) -> bool
-    requires { Lawful (lends words records heads times paths bytes) }
+    requires { Lawful (lends words.now records.now heads.old times.now paths.now bytes.old) }
 {
     let slot = slot_at(words, records, heads.len(), i);
     if heads.len() <= slot {

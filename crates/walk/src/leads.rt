@@ -2,8 +2,8 @@
 ghost use Rattle.std.specs.Prelude.{◌≤◌, ◌<◌, length, take};
 ghost use Rattle.model.specs.Operations.Steps as steps;
 ghost use Rattle.layout.specs.Numbers.{most_entries};
-ghost use Rattle.layout.specs.Lent.{◌∘◌, with_words, with_records, with_heads, with_bytes};
-ghost use Rattle.layout.specs.Lent.{◌&◌, on_words, on_records, on_heads, on_bytes};
+ghost use Rattle.layout.specs.Lent.{◌∘◌, with_words, with_records, with_heads, with_bytes, still};
+ghost use Rattle.layout.specs.Lent.{◌&◌};
 ghost use Rattle.store.specs.Shows.{Some};
 ghost use Rattle.walk.specs.Meets.{Plain};
 ghost use Rattle.walk.specs.Leads.{LeadsIn, LastIn};
@@ -30,9 +30,9 @@ pub fn leads(
     hidden: usize,
     bound: usize,
 ) -> Led
-    requires { Some (with_words words ∘ with_records records ∘ with_heads heads ∘ with_bytes bytes)
+    requires { Some (with_words words.now ∘ with_records records.now ∘ with_heads heads.now ∘ with_bytes bytes.now)
         × (len ≤ 1024) × (1024 ≤ length out.old) × Plain (take len out.old) × (bound ≤ most_entries) × (0 < hidden) }
-    ensures { LeadsIn (on_words words & on_records records & on_heads heads & on_bytes bytes) (steps.leads bound)
+    ensures { LeadsIn (still (with_words words.now ∘ with_records records.now ∘ with_heads heads.now ∘ with_bytes bytes.now)) (steps.leads bound)
         (take len out.old) hidden out.new result }
 {
     match lookup_entry_detail(words, records, heads, bytes, out, len, hidden, bound) {
@@ -53,9 +53,9 @@ pub fn find_directory(
     hidden: usize,
     bound: usize,
 ) -> Led
-    requires { Some (with_words words ∘ with_records records ∘ with_heads heads ∘ with_bytes bytes)
+    requires { Some (with_words words.now ∘ with_records records.now ∘ with_heads heads.now ∘ with_bytes bytes.now)
         × (len ≤ 1024) × (1024 ≤ length out.old) × Plain (take len out.old) × (bound ≤ most_entries) × (0 < hidden) }
-    ensures { LeadsIn (on_words words & on_records records & on_heads heads & on_bytes bytes) (steps.directory bound)
+    ensures { LeadsIn (still (with_words words.now ∘ with_records records.now ∘ with_heads heads.now ∘ with_bytes bytes.now)) (steps.directory bound)
         (take len out.old) hidden out.new result }
 {
     match leads(words, records, heads, bytes, out, len, hidden, bound) {
@@ -90,9 +90,9 @@ pub fn last_entry(
     hidden: usize,
     bound: usize,
 ) -> Last
-    requires { Some (with_words words ∘ with_records records ∘ with_heads heads ∘ with_bytes bytes)
+    requires { Some (with_words words.now ∘ with_records records.now ∘ with_heads heads.now ∘ with_bytes bytes.now)
         × (len ≤ 1024) × (1024 ≤ length out.old) × Plain (take len out.old) × (bound ≤ most_entries) × (0 < hidden) }
-    ensures { LastIn (on_words words & on_records records & on_heads heads & on_bytes bytes) (take len out.old)
+    ensures { LastIn (still (with_words words.now ∘ with_records records.now ∘ with_heads heads.now ∘ with_bytes bytes.now)) (take len out.old)
         name.now hidden bound out.new result }
 {
     match find_directory(words, records, heads, bytes, out, len, hidden, bound) {

@@ -1,7 +1,7 @@
 // The path behind a link.
 ghost use Rattle.std.specs.Prelude.{◌≤◌, length, take};
-ghost use Rattle.layout.specs.Lent.{◌∘◌, with_words, with_records, with_heads, with_bytes};
-ghost use Rattle.layout.specs.Lent.{◌&◌, on_words, on_records, on_heads, on_bytes};
+ghost use Rattle.layout.specs.Lent.{◌∘◌, with_words, with_records, with_heads, with_bytes, still};
+ghost use Rattle.layout.specs.Lent.{◌&◌};
 ghost use Rattle.walk.specs.Lookups.{SomeLink, FollowsIn};
 
 use ask_find::Spot;
@@ -21,9 +21,10 @@ pub fn behind_link(
     dir: usize,
     rest: usize,
 ) -> Formed
-    requires { SomeLink (with_words words ∘ with_records records ∘ with_heads heads ∘ with_bytes bytes) (take len out.old) spot dir rest
+    requires { SomeLink (with_words words.now ∘ with_records records.now ∘ with_heads heads.now ∘ with_bytes bytes.now) (take len out.old) spot dir rest
         × (len ≤ 1024) × (1024 ≤ length out.old) }
-    ensures { FollowsIn (on_words words & on_records records & on_heads heads & on_bytes bytes) (take len out.old) spot dir rest
+    ensures { FollowsIn (still (with_words words.now ∘ with_records records.now ∘ with_heads heads.now
+        ∘ with_bytes bytes.now)) (take len out.old) spot dir rest
         out.new result }
 {
     let target = store::contents(words, records, heads, bytes, spot);

@@ -1,8 +1,8 @@
 // lookup_entry_detail_no_follow and lookup_entry_detail.
 ghost use Rattle.std.specs.Prelude.{◌≡◌, ◌+◌, ◌≤◌, ◌<◌, length, take};
 ghost use Rattle.layout.specs.Numbers.{most_entries};
-ghost use Rattle.layout.specs.Lent.{◌∘◌, with_words, with_records, with_heads, with_bytes};
-ghost use Rattle.layout.specs.Lent.{◌&◌, on_words, on_records, on_heads, on_bytes};
+ghost use Rattle.layout.specs.Lent.{◌∘◌, with_words, with_records, with_heads, with_bytes, still};
+ghost use Rattle.layout.specs.Lent.{◌&◌};
 ghost use Rattle.store.specs.Shows.{Some};
 ghost use Rattle.walk.specs.Meets.{Plain};
 ghost use Rattle.walk.specs.Lookups.{WalksIn, LooksIn};
@@ -85,9 +85,9 @@ pub fn lookup_entry_detail_no_follow(
     len: usize,
     hidden: usize,
 ) -> Walked
-    requires { Some (with_words words ∘ with_records records ∘ with_heads heads ∘ with_bytes bytes)
+    requires { Some (with_words words.now ∘ with_records records.now ∘ with_heads heads.now ∘ with_bytes bytes.now)
         × (len ≤ 1024) × (1024 ≤ length out.old) × Plain (take len out.old) × (0 < hidden) }
-    ensures { WalksIn (on_words words & on_records records & on_heads heads & on_bytes bytes) (take len out.old) hidden
+    ensures { WalksIn (still (with_words words.now ∘ with_records records.now ∘ with_heads heads.now ∘ with_bytes bytes.now)) (take len out.old) hidden
         out.new result }
 {
     let mut n = len;
@@ -149,9 +149,10 @@ pub fn lookup_entry_detail(
     hidden: usize,
     bound: usize,
 ) -> Looked
-    requires { Some (with_words words ∘ with_records records ∘ with_heads heads ∘ with_bytes bytes)
+    requires { Some (with_words words.now ∘ with_records records.now ∘ with_heads heads.now ∘ with_bytes bytes.now)
         × (len ≤ 1024) × (1024 ≤ length out.old) × Plain (take len out.old) × (bound ≤ most_entries) × (0 < hidden) }
-    ensures { LooksIn (on_words words & on_records records & on_heads heads & on_bytes bytes) (take len out.old) hidden bound
+    ensures { LooksIn (still (with_words words.now ∘ with_records records.now ∘ with_heads heads.now
+        ∘ with_bytes bytes.now)) (take len out.old) hidden bound
         out.new result }
 {
     let mut left = bound;

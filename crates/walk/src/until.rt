@@ -1,7 +1,7 @@
 // lookup_entry_detail_until_symlink.
 ghost use Rattle.std.specs.Prelude.{◌<◌};
-ghost use Rattle.layout.specs.Lent.{◌∘◌, with_words, with_records, with_heads, with_bytes};
-ghost use Rattle.layout.specs.Lent.{◌&◌, on_words, on_records, on_heads, on_bytes};
+ghost use Rattle.layout.specs.Lent.{◌∘◌, with_words, with_records, with_heads, with_bytes, still};
+ghost use Rattle.layout.specs.Lent.{◌&◌};
 ghost use Rattle.store.specs.Shows.{Some};
 ghost use Rattle.walk.specs.Meets.{Plain, MeetsIn};
 
@@ -19,8 +19,8 @@ pub fn lookup_entry_detail_until_symlink(
     path: &[u8],
     hidden: usize,
 ) -> Met
-    requires { Some (with_words words ∘ with_records records ∘ with_heads heads ∘ with_bytes bytes) × Plain path.now × (0 < hidden) }
-    ensures { MeetsIn (on_words words & on_records records & on_heads heads & on_bytes bytes) path.now hidden result }
+    requires { Some (with_words words.now ∘ with_records records.now ∘ with_heads heads.now ∘ with_bytes bytes.now) × Plain path.now × (0 < hidden) }
+    ensures { MeetsIn (still (with_words words.now ∘ with_records records.now ∘ with_heads heads.now ∘ with_bytes bytes.now)) path.now hidden result }
 {
     let mut spot = match store::root(words) {
         Look::Found(s) => s,

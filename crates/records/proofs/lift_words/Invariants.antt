@@ -1,0 +1,16 @@
+-- `records::lift_words` meets its contract: the words from a to j are lifted. Assumes nothing.
+use mathlib.Core.Path.{◌≡◌, ◌∙◌, ap, refl}
+use Prim.Native.Nat.{ℕ, ◌-◌, ◌≤◌}
+use native.Mathlib.Nat.{le_refl}
+use native.Mathlib.Numerals.{add-one}
+use native.Mathlib.Omega.{arith}
+use lib.ListN.{length, get_or, length-set}
+use Rattle.records.specs.Blocks.{changed, lift, Liftable}
+use Rattle.records.proofs.Lifts.{change_none, change-read, change-turn}
+use Rattle.records.proofs.lift_words.Given as goal
+
+abbrev pub invariant-loop-j : goal.invariant-loop-j
+invariant-loop-j l = (l.a ≤ l.j) × (l.j ≤ l.b) × (length l.records ≡ length l.initial.records) × (l.records ≡ changed (lift l.up l.down) l.initial.records l.a l.j)
+
+abbrev pub decreases-loop-j : goal.decreases-loop-j
+decreases-loop-j l = l.b - l.j

@@ -1,0 +1,15 @@
+-- `slots::free_slot` meets its contract: no slot before i is free, so the search goes on from i. Assumes nothing.
+use mathlib.Core.Path.{◌≡◌, ◌∙◌, sym, refl}
+use Prim.Native.Nat.{◌-◌, ◌≤◌, zero-le}
+use native.Mathlib.Numerals.{add-one}
+use native.Mathlib.Omega.{arith}
+use lib.ListN.{length, drop}
+use Rattle.slots.specs.Free.{free_from}
+use Rattle.slots.proofs.Frees.{free_on, free-here, free-end}
+use Rattle.slots.proofs.free_slot.Given as goal
+
+abbrev pub invariant-loop-i : goal.invariant-loop-i
+invariant-loop-i l = (l.i ≤ length l.heads) × (free_from l.heads 0 ≡ free_from (drop l.i l.heads) l.i)
+
+abbrev pub decreases-loop-i : goal.decreases-loop-i
+decreases-loop-i l = length l.heads - l.i

@@ -1,0 +1,15 @@
+-- `mark_records` meets its contract. The loop's invariant: the marks say how often the first i records name each slot.
+-- Assumes nothing.
+use mathlib.Core.Path.{◌≡◌}
+use Prim.Native.Nat.{◌-◌, ◌≤◌}
+use native.Mathlib.Omega.{arith}
+use lib.ListN.{length, length-set}
+use lib.Seq.{take_all}
+use Rattle.slots.proofs.Counting.{Said, said_none, said_more, said-twice}
+use Rattle.slots.proofs.marks.mark_records.Given as goal
+
+abbrev pub invariant-loop-i : goal.invariant-loop-i
+invariant-loop-i l = (l.i ≤ length l.recs) × (length l.marks ≡ 4128) × Said l.recs l.marks l.i
+
+abbrev pub decreases-loop-i : goal.decreases-loop-i
+decreases-loop-i l = length l.recs - l.i
