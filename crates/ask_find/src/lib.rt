@@ -1,3 +1,4 @@
+#![tactic(auto)]
 // Reading the entries of a store that obeys the rules.
 ghost use Rattle.std.specs.Prelude.{true, ◌≡◌, ◌+◌, ◌<◌, ◌≤◌, length, take, drop, get_or};
 ghost use Rattle.layout.specs.Fields.{depth_of};

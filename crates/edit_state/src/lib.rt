@@ -1,3 +1,4 @@
+#![tactic(auto)]
 // The file numbers, the current directory and the umask of a store.
 ghost use Rattle.std.specs.Prelude.{◌≡◌, ◌<◌, T, length};
 ghost use Rattle.path.specs.Path.{names};

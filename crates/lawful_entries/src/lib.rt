@@ -1,3 +1,4 @@
+#![tactic(auto)]
 // The entries of a store against the rules of a tree.
 ghost use Rattle.std.specs.Prelude.{◌≡◌, ◌≤◌, length};
 ghost use Rattle.layout.specs.Numbers.{most_entries, most_bytes};

@@ -1,3 +1,4 @@
+#![tactic(auto)]
 // The slots of a store against who uses them.
 ghost use Rattle.std.specs.Prelude.{◌≤◌, length};
 ghost use Rattle.layout.specs.Numbers.{extent_at, most_slots};
