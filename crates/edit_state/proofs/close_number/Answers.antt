@@ -1,0 +1,33 @@
+-- `close_number` meets its contract. Assumes nothing.
+use borrow.Author.Rules.{rules}
+use mathlib.Core.Path.{◌∙◌, sym}
+use native.Mathlib.Omega.{arith}
+use Rattle.layout.proofs.Entered.{stood}
+use Rattle.edit_state.proofs.Closing.{close-held, close-named, close-freed, same_count}
+use Rattle.edit_state.proofs.close_number.Goals as goal
+
+pub returns-then-is_held : goal.returns-then-is_held
+returns-then-is_held c st l =
+    let p = c.requires.2 in
+    close-held _ l _ p.low p.on (sym c.if-is_held.true ∙ c.is_held.ensures)
+
+pub is_used-requires : goal.is_used-requires
+is_used-requires c =
+    let p = c.requires in
+    omega (arith, p.1.counted, p.1.exact.records, same_count _ p.1 _ p.2.low p.2.on)
+
+pub returns-then-is_used : goal.returns-then-is_used
+returns-then-is_used c st l =
+    let p = c.requires.2 in
+    close-named _ l _ p.low p.on (sym c.if-is_used.true ∙ c.is_used.ensures)
+
+pub clear-requires : goal.clear-requires
+clear-requires c =
+    let p = c.requires in
+    let s = stood _ p.1 _ p.2.low p.2.on in
+    (omega (arith, s.one, s.low), omega (arith, p.1.space, p.1.exact.bytes))
+
+pub returns : goal.returns
+returns c st l =
+    let p = c.requires.2 in
+    close-freed _ l _ p.low p.on _ _ c.clear.ensures (sym c.if-is_held.false ∙ c.is_held.ensures) (sym c.if-is_used.false ∙ c.is_used.ensures)

@@ -1,0 +1,23 @@
+-- `open_number` meets its contract. Assumes nothing.
+use Prim.Native.Nat.{◌+◌, ◌*◌}
+use native.Mathlib.Omega.{arith}
+use lib.ListN.{length-set}
+use Rattle.edit_state.proofs.Cells.{cell-fits}
+use Rattle.edit_state.proofs.Opening.{opens-spells}
+use borrow.Author.Rules.{rules}
+use Rattle.edit_state.proofs.open_number.Goals as goal
+
+pub bounds-words-n-2 : goal.bounds-words-n-2
+bounds-words-n-2 c = simp length-set (omega (arith, c.requires.3, c.requires.0))
+
+pub bounds-words-n-3 : goal.bounds-words-n-3
+bounds-words-n-3 c = simp length-set (omega (arith, c.requires.3, c.requires.0))
+
+pub copy_into-requires : goal.copy_into-requires
+copy_into-requires c = omega (arith, c.requires.3, c.requires.1, cell-fits _ c.requires.2)
+
+pub returns : goal.returns
+returns c st l m =
+    let a = c.args in
+    let p = c.requires in
+    opens-spells _ l _ _ _ _ p.3 m.closed p.2 m.is_file (a.slot + 1) (1024 * (a.n + 1)) (omega arith) (omega arith) _ c.copy_into.ensures

@@ -1,0 +1,7 @@
+-- `entry_word` meets its contract, kind by kind.
+-- Assumes nothing.
+use Rattle.lawful_slots.proofs.ByKind.{entry-word}
+use Rattle.lawful_slots.proofs.taken.entry_word.Goals as goal
+
+pub returns : goal.returns
+returns c = entry-word c.args.h
