@@ -1,3 +1,4 @@
+#![tactic(auto)]
 // Reading a store: each function takes the slices that it reads, and tells what the model answers of every store that has them and
 // obeys the rules.
 ghost use Rattle.std.specs.Prelude.{cond, [], ◌≡◌, ◌+◌, ◌*◌, ◌≤◌, ◌<◌, eqb, ltb, pos, length, take, drop, get_or};

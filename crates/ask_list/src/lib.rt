@@ -1,3 +1,4 @@
+#![tactic(auto)]
 // The entries of a directory of a store that obeys the rules: whether it has any, how many, their names (01, "List"), and one after
 // the other. They stand behind its record, up to the first that is not deeper, and what is deeper than an entry is passed.
 ghost use Rattle.std.specs.Prelude.{◌≡◌, ◌+◌, ◌<◌, ◌≤◌, length};

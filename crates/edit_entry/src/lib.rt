@@ -1,3 +1,4 @@
+#![tactic(auto)]
 // The edits of the tree: an entry put in, taken out, moved, put below a new one.
 mod fill;
 pub mod insert;

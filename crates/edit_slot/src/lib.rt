@@ -1,3 +1,4 @@
+#![tactic(auto)]
 // The edits of what stands in one slot: its mode, its times, its bytes. Every other slice is as it was.
 ghost use Rattle.std.specs.Prelude.{◌≡◌, ◌+◌, ◌*◌, ◌<◌, length, get_or, set};
 ghost use Rattle.layout.specs.Store.{bytes_at};

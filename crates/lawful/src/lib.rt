@@ -1,3 +1,4 @@
+#![tactic(auto)]
 // The exact test of refusal 1: whether lent slices are a store.
 ghost use Rattle.std.specs.Prelude.{◌≤◌, length};
 ghost use Rattle.layout.specs.Numbers.{extent_at, most_entries, most_bytes, most_slots, paths_bytes};
