@@ -1,3 +1,4 @@
+#![tactic(auto)]
 // Bytes used and the number of links, worked out from the tree (01, "Limits").
 ghost use Rattle.std.specs.Prelude.{true, ◌≡◌, ℕ, ◌≤◌, ◌<◌, length, take};
 ghost use Rattle.layout.specs.Numbers.{extent_at, most_entries, most_slots};

@@ -1,3 +1,4 @@
+#![tactic(auto)]
 // How many slots a store has so far. Slots behind them are not looked at, so a test of the store costs what is in use, whatever the
 // limits are.
 ghost use Rattle.std.specs.Prelude.{◌≡◌, ℕ, ◌-◌, ◌≤◌, ◌<◌, length, get_or};
