@@ -10,7 +10,7 @@ use Rattle.layout.specs.Fields.{kind_of}
 use Rattle.ask_used.specs.Totals.{head_of, link_total}
 use Rattle.ask_find.proofs.Reading.{from}
 use Rattle.ask_used.proofs.Totals.{slot_in, links_end, links-fit, links-on, links-off}
-use Rattle.ask_used.proofs.link_count.Goals.{After-kind_of}
+use Rattle.ask_used.proofs.link_count.Goals.{After-kind_of, then-kind_of-eq3, else-kind_of-eq3}
 use Rattle.ask_used.proofs.link_count.Goals as goal
 
 pub loop-j-init : goal.loop-j-init
@@ -40,10 +40,10 @@ loop-j-preserved c =
     let p = c.requires.0 in
     let e = kind-at (goal.at.loop-j-preserved c).After-kind_of in (
       omega arith,
-      ⊎_elim
-          (λ w. omega (arith, w.1, l.invariant.1, links-on a.records.now a.count p a.heads.now l.j c.loop-j-test.true (sym e ∙ w.0.taken)))
-          (λ w. omega (arith, w.1, l.invariant.1, links-off a.records.now a.count p a.heads.now l.j c.loop-j-test.true (λ z. w.0.left (e ∙ z))))
-          c.if-kind_of-eq3.branch,
+      elim c.if-kind_of-eq3.branch [
+        then-kind_of-eq3 w ↦ omega (arith, w.n-is, l.invariant.1, links-on a.records.now a.count p a.heads.now l.j c.loop-j-test.true (sym e ∙ w.if-kind_of-eq3.true))
+        | else-kind_of-eq3 w ↦ omega (arith, w.n-is, l.invariant.1, links-off a.records.now a.count p a.heads.now l.j c.loop-j-test.true (λ z. w.if-kind_of-eq3.false (e ∙ z)))
+      ],
     )
 
 pub returns : goal.returns
