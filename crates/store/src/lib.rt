@@ -1,3 +1,4 @@
+#![tactic(auto)]
 // The store in the model's words: each question of the model about an entry, over slices that are as long as the limits ask.
 ghost use Rattle.std.proofs.Math.Option.{some};
 ghost use Rattle.std.specs.Prelude.{◌≡◌, ◌<◌, take, get_or};

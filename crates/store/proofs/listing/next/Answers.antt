@@ -7,20 +7,14 @@ use Rattle.layout.specs.Lent.{◌∘◌, with_words, with_records}
 use Rattle.store.specs.Listing.{rest}
 use Rattle.store.proofs.Listed.{placed, step-told}
 use borrow.Author.Rules.{rules}
-use Rattle.store.proofs.listing.next.Statement.{statement}
-use Rattle.store.proofs.listing.next.Tie as tie
+use Rattle.store.proofs.listing.next.Goals as goal
 
-shared-slice-read-next : tie.Need-shared-slice-read-next
-shared-slice-read-next c = search rules
+pub next-requires : goal.next-requires
+next-requires c = let d = c in placed d.args.words d.args.records d.args.spot d.requires
 
-next-requires : tie.Need-next-requires
-next-requires c κs = let d = c.before.before.before in placed d.args.words d.args.records d.args.spot d.requires
-
-returns : tie.Need-returns
-returns c = λ st s h p x a.
-    let g = c.before.before.before.before.args in
+pub returns : goal.returns
+returns c =
+    λ st s h p x a.
+    let g = c.args in
     let u = (with_words g.words ∘ with_records g.records) st in
     step-told u s h p (rest u p g.spot) c.next.result (c.next.ensures (trim u) refl refl h.roomy.lawful (p ++ (x ∷ [])) a p x refl)
-
-pub next-spec : {M : Type 1} → statement M
-next-spec = tie.close (tie.spec shared-slice-read-next next-requires returns)

@@ -1,0 +1,18 @@
+-- `kind` meets its contract: the store answers as each state that it shows.
+-- Assumes nothing.
+use mathlib.Core.Path.{refl, sym, ◌∙◌}
+use Rattle.model.specs.Prog.{kind?}
+use Rattle.edit_room.specs.Extents.{trim}
+use Rattle.layout.specs.Lent.{◌∘◌, with_words, with_records, with_heads}
+use Rattle.store.proofs.Asked.{told}
+use borrow.Author.Rules.{rules}
+use Rattle.store.proofs.kind.Goals as goal
+
+pub returns : goal.returns
+returns c = (
+  c.entry_kind.ensures.0,
+  λ st s h p a.
+      let g = c.args in
+      let u = (with_words g.words ∘ with_records g.records ∘ with_heads g.heads) st in
+      sym (told u s h (kind? p)) ∙ c.entry_kind.ensures.1 (trim u) refl (sym c.in_use.ensures) h.roomy.lawful p a,
+)

@@ -1,0 +1,9 @@
+-- `entries` meets its contract: a state that the store shows has as many entries.
+-- Assumes nothing.
+use Rattle.layout.specs.Lent.{with_words}
+use Rattle.store.proofs.Spaced.{entries-told}
+use borrow.Author.Rules.{rules}
+use Rattle.store.proofs.space.entries.Goals as goal
+
+pub returns : goal.returns
+returns c = λ st s h. entries-told (with_words c.args.words st) s h

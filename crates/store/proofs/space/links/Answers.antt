@@ -1,0 +1,18 @@
+-- `links` meets its contract: a state that the store shows has as many links.
+-- Assumes nothing.
+use mathlib.Core.Path.{refl, sym, ◌∙◌}
+use Rattle.edit_room.specs.Extents.{trim}
+use Rattle.layout.specs.Lent.{◌∘◌, with_words, with_records, with_heads}
+use Rattle.store.proofs.Spaced.{links-told}
+use borrow.Author.Rules.{rules}
+use Rattle.store.proofs.space.links.Goals as goal
+
+pub links_in-requires : goal.links_in-requires
+links_in-requires c = let p = c.requires in record { store = trim _; records = refl; heads = sym c.in_use.ensures; counted = refl; lawful = p.2.roomy.lawful }
+
+pub returns : goal.returns
+returns c =
+    λ st s h.
+    let g = c.args in
+    let u = (with_words g.words ∘ with_records g.records ∘ with_heads g.heads) st in
+    c.links_in.ensures (trim u) refl (sym c.in_use.ensures) refl h.roomy.lawful ∙ links-told u s h

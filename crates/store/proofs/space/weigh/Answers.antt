@@ -1,0 +1,35 @@
+-- `weigh` meets its contract: the entry takes up as much in each state that the store shows, and its contents stay where a number is
+-- open on it.
+-- Assumes nothing.
+use mathlib.Core.Bool.{Bool, cond}
+use mathlib.Core.Path.{refl, sym, ap}
+use Rattle.edit_room.specs.Extents.{trim}
+use Rattle.layout.specs.Lent.{◌∘◌, with_words, with_records, with_heads}
+use Rattle.store.proofs.Spaced.{weight-told}
+use borrow.Author.Rules.{rules}
+use Rattle.store.proofs.space.weigh.Goals as goal
+
+pub weigh-w-requires : goal.weigh-w-requires
+weigh-w-requires c =
+    let p = c.requires in
+    record {
+      counted = record { store = trim _; words = refl; records = refl; heads = sym c.in_use.ensures; lawful = p.3.roomy.lawful };
+      path = p.2;
+      at = p.4;
+    }
+
+pub returns-then-w : goal.returns-then-w
+returns-then-w c =
+    λ st s h p a.
+    let g = c.args in
+    let u = (with_words g.words ∘ with_records g.records ∘ with_heads g.heads) st in
+    let r = c.weigh-w.result in
+    weight-told u s h p r _ (c.weigh-w.ensures (trim u) refl refl (sym c.in_use.ensures) h.roomy.lawful p a) (ap (λ (b : Bool). cond b 0 r.size) c.if-w.true)
+
+pub returns : goal.returns
+returns c =
+    λ st s h p a.
+    let g = c.args in
+    let u = (with_words g.words ∘ with_records g.records ∘ with_heads g.heads) st in
+    let r = c.weigh-w.result in
+    weight-told u s h p r _ (c.weigh-w.ensures (trim u) refl refl (sym c.in_use.ensures) h.roomy.lawful p a) (ap (λ (b : Bool). cond b 0 r.size) c.if-w.false)
