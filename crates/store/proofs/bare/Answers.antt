@@ -18,5 +18,5 @@ pub returns : goal.returns
 returns c =
     λ st s h p a.
     let g = c.args in
-    let u = (with_words g.words ∘ with_records g.records) st in
+    let u = (with_words g.words.now ∘ with_records g.records.now) st in
     sym (told u s h (bare? p)) ∙ sym (c.is_bare.ensures (trim u) refl refl h.roomy.lawful p a)

@@ -14,5 +14,5 @@ pub returns : goal.returns
 returns c =
     λ st s h p w a y e.
     let g = c.args in
-    let u = (with_words g.words ∘ with_records g.records ∘ with_bytes g.bytes) st in
+    let u = (with_words g.words.now ∘ with_records g.records.now ∘ with_bytes g.bytes.now) st in
     child-told u s h g.hidden w p g.name.now c.child.result y e (λ t d k. c.child.ensures (trim u) refl refl refl h.roomy.lawful p t a d k)

@@ -14,5 +14,5 @@ pub returns : goal.returns
 returns c =
     λ st s h p a.
     let g = c.args in
-    let u = (with_words g.words ∘ with_records g.records ∘ with_heads g.heads ∘ with_bytes g.bytes) st in
+    let u = (with_words g.words.now ∘ with_records g.records.now ∘ with_heads g.heads.now ∘ with_bytes g.bytes.now) st in
     contents-told u s h p c.entry_contents.result.now (c.entry_contents.ensures (trim u) refl (sym c.in_use.ensures) refl h.roomy.lawful p a)

@@ -15,5 +15,5 @@ pub returns : goal.returns
 returns c =
     λ st s h o e.
     let g = c.args in
-    let u = (with_words g.words ∘ with_heads g.heads ∘ with_bytes g.bytes) st in
+    let u = (with_words g.words.now ∘ with_heads g.heads.now ∘ with_bytes g.bytes.now) st in
     sym (told u s h (held? g.n)) ∙ c.held_bytes.ensures (trim u) refl (sym c.in_use.ensures) refl h.roomy.lawful o (told u s h (open? g.n) ∙ e)

@@ -12,4 +12,4 @@ pub returns : goal.returns
 returns c =
     λ st s h.
     let g = c.args in
-    subst (λ (p : Path). PathIs p c.current.result.now) h.alike.current (c.current.ensures (trim ((with_words g.words ∘ with_paths g.paths) st)) refl refl h.roomy.lawful)
+    subst (λ (p : Path). PathIs p c.current.result.now) h.alike.current (c.current.ensures (trim ((with_words g.words.now ∘ with_paths g.paths.now) st)) refl refl h.roomy.lawful)

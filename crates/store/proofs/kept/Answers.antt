@@ -12,5 +12,5 @@ pub returns : goal.returns
 returns c =
     λ st s h o e.
     let g = c.args in
-    let u = (with_words g.words ∘ with_paths g.paths) st in
+    let u = (with_words g.words.now ∘ with_paths g.paths.now) st in
     c.kept_path.ensures (trim u) refl refl h.roomy.lawful o (told u s h (open? g.n) ∙ e)

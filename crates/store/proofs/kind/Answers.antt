@@ -13,6 +13,6 @@ returns c = (
   c.entry_kind.ensures.0,
   λ st s h p a.
       let g = c.args in
-      let u = (with_words g.words ∘ with_records g.records ∘ with_heads g.heads) st in
+      let u = (with_words g.words.now ∘ with_records g.records.now ∘ with_heads g.heads.now) st in
       sym (told u s h (kind? p)) ∙ c.entry_kind.ensures.1 (trim u) refl (sym c.in_use.ensures) h.roomy.lawful p a,
 )

@@ -11,5 +11,5 @@ pub returns : goal.returns
 returns c =
     λ st s h.
     let g = c.args in
-    let u = with_words g.words st in
+    let u = with_words g.words.now st in
     root_told u s h c.root.result (c.root.ensures (trim u) refl h.roomy.lawful)

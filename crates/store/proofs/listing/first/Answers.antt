@@ -8,11 +8,11 @@ use borrow.Author.Rules.{rules}
 use Rattle.store.proofs.listing.first.Goals as goal
 
 pub first-requires : goal.first-requires
-first-requires c = let d = c in placed d.args.words d.args.records d.args.spot d.requires
+first-requires c = let d = c in placed d.args.words.now d.args.records.now d.args.spot d.requires
 
 pub returns : goal.returns
 returns c =
     λ st s h p a.
     let g = c.args in
-    let u = (with_words g.words ∘ with_records g.records) st in
+    let u = (with_words g.words.now ∘ with_records g.records.now) st in
     first_told u s h p c.first.result (c.first.ensures (trim u) refl refl h.roomy.lawful p a)

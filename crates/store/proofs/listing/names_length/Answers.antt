@@ -13,11 +13,11 @@ use borrow.Author.Rules.{rules}
 use Rattle.store.proofs.listing.names_length.Goals as goal
 
 pub names_length-requires : goal.names_length-requires
-names_length-requires c = let d = c in placed d.args.words d.args.records d.args.spot d.requires
+names_length-requires c = let d = c in placed d.args.words.now d.args.records.now d.args.spot d.requires
 
 pub returns : goal.returns
 returns c =
     λ st s h p a.
     let g = c.args in
-    let u = (with_words g.words ∘ with_records g.records) st in
+    let u = (with_words g.words.now ∘ with_records g.records.now) st in
     c.names_length.ensures (trim u) refl refl h.roomy.lawful p a ∙ ap (λ (l : List (Name × Stat)). length (names_text l)) (listed-told u s h p)

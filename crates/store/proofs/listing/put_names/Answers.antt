@@ -13,11 +13,11 @@ use borrow.Author.Rules.{rules}
 use Rattle.store.proofs.listing.put_names.Goals as goal
 
 pub put_names-requires : goal.put_names-requires
-put_names-requires c = let d = c in roomy d.args.words d.args.records d.args.bytes d.args.spot d.args.out.now d.requires
+put_names-requires c = let d = c in roomy d.args.words.now d.args.records.now d.args.bytes.now d.args.spot d.args.out.now d.requires
 
 pub returns : goal.returns
 returns c =
     λ st s h p a.
     let g = c.args in
-    let u = (with_words g.words ∘ with_records g.records ∘ with_bytes g.bytes) st in
+    let u = (with_words g.words.now ∘ with_records g.records.now ∘ with_bytes g.bytes.now) st in
     c.put_names.ensures (trim u) refl refl h.roomy.lawful p a refl ∙ ap (λ (l : List (Name × Stat)). in_front (names_text l) g.out.now) (listed-told u s h p)

@@ -6,4 +6,4 @@ use borrow.Author.Rules.{rules}
 use Rattle.store.proofs.space.entries.Goals as goal
 
 pub returns : goal.returns
-returns c = λ st s h. entries-told (with_words c.args.words st) s h
+returns c = λ st s h. entries-told (with_words c.args.words.now st) s h

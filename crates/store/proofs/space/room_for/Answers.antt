@@ -11,14 +11,14 @@ pub returns-then-words-more : goal.returns-then-words-more
 returns-then-words-more c =
     λ st s h.
     let g = c.args in
-    let u = (with_words g.words ∘ with_records g.records ∘ with_heads g.heads) st in
+    let u = (with_words g.words.now ∘ with_records g.records.now ∘ with_heads g.heads.now) st in
     no-entries u s h g.more g.grown g.freed (omega (arith, c.if-words-more.true))
 
 pub returns-then-grown-freed : goal.returns-then-grown-freed
 returns-then-grown-freed c =
     λ st s h.
     let g = c.args in
-    let u = (with_words g.words ∘ with_records g.records ∘ with_heads g.heads) st in
+    let u = (with_words g.words.now ∘ with_records g.records.now ∘ with_heads g.heads.now) st in
     has_room_lem u s h g.more g.grown g.freed (omega (arith, c.if-words-more.false)) (omega (arith, c.if-grown-freed.true))
 
 pub overflow_sub-words-2 : goal.overflow_sub-words-2
@@ -26,19 +26,19 @@ overflow_sub-words-2 c =
     let d = c in
     let g = d.args in
     let q = d.requires in
-    let u = (with_words g.words ∘ with_records g.records ∘ with_heads g.heads) q.0 in
+    let u = (with_words g.words.now ∘ with_records g.records.now ∘ with_heads g.heads.now) q.0 in
     omega (arith, c.used.ensures q.0 q.1 q.2, bytes_fit_lem u q.1 q.2)
 
 pub returns-then-words-used : goal.returns-then-words-used
 returns-then-words-used c =
     λ st s h.
     let g = c.args in
-    let u = (with_words g.words ∘ with_records g.records ∘ with_heads g.heads) st in
+    let u = (with_words g.words.now ∘ with_records g.records.now ∘ with_heads g.heads.now) st in
     no_bytes_lem u s h g.more g.grown g.freed (omega (arith, c.if-words-more.false)) (omega (arith, c.if-grown-freed.false)) (omega (arith, c.if-words-used.true, c.used.ensures st s h))
 
 pub returns : goal.returns
 returns c =
     λ st s h.
     let g = c.args in
-    let u = (with_words g.words ∘ with_records g.records ∘ with_heads g.heads) st in
+    let u = (with_words g.words.now ∘ with_records g.records.now ∘ with_heads g.heads.now) st in
     has_room_lem u s h g.more g.grown g.freed (omega (arith, c.if-words-more.false)) (omega (arith, c.if-words-used.false, c.if-grown-freed.false, c.used.ensures st s h))

@@ -14,5 +14,5 @@ pub returns : goal.returns
 returns c =
     λ st s h.
     let g = c.args in
-    let u = (with_words g.words ∘ with_records g.records ∘ with_heads g.heads) st in
+    let u = (with_words g.words.now ∘ with_records g.records.now ∘ with_heads g.heads.now) st in
     c.bytes_used.ensures (trim u) refl refl (sym c.in_use.ensures) h.roomy.lawful ∙ used-told u s h

@@ -22,7 +22,7 @@ pub returns-then-w : goal.returns-then-w
 returns-then-w c =
     λ st s h p a.
     let g = c.args in
-    let u = (with_words g.words ∘ with_records g.records ∘ with_heads g.heads) st in
+    let u = (with_words g.words.now ∘ with_records g.records.now ∘ with_heads g.heads.now) st in
     let r = c.weigh-w.result in
     weight-told u s h p r _ (c.weigh-w.ensures (trim u) refl refl (sym c.in_use.ensures) h.roomy.lawful p a) (ap (λ (b : Bool). cond b 0 r.size) c.if-w.true)
 
@@ -30,6 +30,6 @@ pub returns : goal.returns
 returns c =
     λ st s h p a.
     let g = c.args in
-    let u = (with_words g.words ∘ with_records g.records ∘ with_heads g.heads) st in
+    let u = (with_words g.words.now ∘ with_records g.records.now ∘ with_heads g.heads.now) st in
     let r = c.weigh-w.result in
     weight-told u s h p r _ (c.weigh-w.ensures (trim u) refl refl (sym c.in_use.ensures) h.roomy.lawful p a) (ap (λ (b : Bool). cond b 0 r.size) c.if-w.false)
