@@ -11,14 +11,14 @@ use layout::{depth_of, nlen_of};
 use name_order::{Order, compare, key, word};
 
 // An entry: its record, and the offset of its name.
-#[derive(Drop)]
+#[derive(Clone, Copy)]
 pub struct Spot {
     pub at: usize,
     pub off: usize,
 }
 
 // Where a missing entry would stand: before that record, with its name at that offset, at that depth.
-#[derive(Drop)]
+#[derive(Clone, Copy)]
 pub struct Gap {
     pub at: usize,
     pub off: usize,

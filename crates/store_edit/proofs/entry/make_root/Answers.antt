@@ -1,0 +1,67 @@
+-- `make_root` meets its contract: a slot is reserved, the root is the first record, free slots at the end are given up.
+-- Assumes nothing.
+use mathlib.Core.List.{[], ◌∷◌}
+use mathlib.Core.Path.{sym}
+use lib.Seq.{length-take-le}
+use mir.Syntax.{w64}
+use mir.ValLaws.{to_z-of_z}
+use Rattle.model.specs.Prog.{make}
+use Rattle.model.specs.Operations.Steps.{fresh}
+use Rattle.layout.specs.Lent.{◌∘◌, with_words, with_records, with_heads, with_times, with_bytes}
+use Rattle.edit_room.proofs.Parting.{part_within}
+use Rattle.store_edit.proofs.Carrying.{shows_whole, shows-resized, shows-released, roomy_of}
+use Rattle.store_edit.proofs.Resizing.{stands-released}
+use Rattle.store_edit.proofs.Rooting.{root-may, stands-root, same_rooted}
+use borrow.Author.Rules.{rules}
+use Rattle.store_edit.proofs.entry.make_root.Goals as goal
+
+pub reserve-requires : goal.reserve-requires
+reserve-requires c = roomy_of c.requires.2.roomy
+
+pub slice_bounds-insert_root-end : goal.slice_bounds-insert_root-end
+slice_bounds-insert_root-end c =
+    let q = c.requires in
+    let g = c.args in
+    let u = (with_words g.words.now ∘ with_records g.records.now ∘ with_heads g.heads.now ∘ with_times g.times.now ∘ with_bytes g.bytes.now) q.0 in
+    part_within _ (c.reserve.ensures u q.2.roomy).resized.roomy
+
+pub slice_bounds-insert_root-end-2 : goal.slice_bounds-insert_root-end-2
+slice_bounds-insert_root-end-2 c =
+    let q = c.requires in
+    let g = c.args in
+    let u = (with_words g.words.now ∘ with_records g.records.now ∘ with_heads g.heads.now ∘ with_times g.times.now ∘ with_bytes g.bytes.now) q.0 in
+    sym (length-take-le _ _ (part_within _ (c.reserve.ensures u q.2.roomy).resized.roomy))
+
+pub insert_root-requires : goal.insert_root-requires
+insert_root-requires c =
+    let q = c.requires in
+    let g = c.args in
+    let u = (with_words g.words.now ∘ with_records g.records.now ∘ with_heads g.heads.now ∘ with_times g.times.now ∘ with_bytes g.bytes.now) q.0 in
+    let r = c.reserve.ensures u q.2.roomy in
+    (u, r.resized.roomy.lawful, root-may q.2 r (fresh g.mode g.t) q.3)
+
+pub release-requires : goal.release-requires
+release-requires c =
+    let q = c.requires in
+    let g = c.args in
+    let u = (with_words g.words.now ∘ with_records g.records.now ∘ with_heads g.heads.now ∘ with_times g.times.now ∘ with_bytes g.bytes.now) q.0 in
+    let r = c.reserve.ensures u q.2.roomy in
+    let w = shows-resized q.2 r.resized in
+    let x = c.insert_root in
+    let z = same_rooted w g.mode (to_z-of_z w64 g.t c.ranges.t) (x.ensures u r.resized.roomy.lawful) in
+    roomy_of (shows_whole (make [] (fresh g.mode g.t) ∷ []) _ _ _ w z x.auto.heads x.auto.records).roomy
+
+pub returns : goal.returns
+returns c =
+    λ st s h f.
+    let g = c.args in
+    let u = (with_words g.words.now ∘ with_records g.records.now ∘ with_heads g.heads.now ∘ with_times g.times.now ∘ with_bytes g.bytes.now) st in
+    let r = c.reserve.ensures u h.roomy in
+    let w = shows-resized h r.resized in
+    let x = c.insert_root in
+    let z = same_rooted w g.mode (to_z-of_z w64 g.t c.ranges.t) (x.ensures u r.resized.roomy.lawful) in
+    let k = shows_whole (make [] (fresh g.mode g.t) ∷ []) _ _ _ w z x.auto.heads x.auto.records in
+    record {
+      shows = shows-released k c.release.ensures;
+      stands = stands-released k.roomy c.release.ensures _ _ (stands-root w g.mode g.t z);
+    }
