@@ -220,8 +220,8 @@ def main():
     for i, (name, most, room, lines, expected) in enumerate(CASES):
         source.append(model.job_text(i, name, lines))
         code = [x for e in expected for x in model.result_code(e)]
-        source.append("t%d : answerNumber j%d (freshState %d %d) ≡ %s\nunfolding answerNumber\nt%d = refl\n" % (i, i, most, room, model.packed(code), i))
-    source.append("t999999 : answerNumber j0 (freshState 512 32768) ≡ 1000\nunfolding answerNumber\nt999999 = refl\n")
+        source.append("t%d : answer_number j%d (fresh_state %d %d) ≡ %s\nunfolding answer_number\nt%d = refl\n" % (i, i, most, room, model.packed(code), i))
+    source.append("t999999 : answer_number j0 (fresh_state 512 32768) ≡ 1000\nunfolding answer_number\nt999999 = refl\n")
     bad = model.refused(model.checked("\n".join(source)))
     print("by hand: %d cases, %d calls, %d cases differ from the model" % (len(CASES), sum(len(c[3]) for c in CASES), len(bad)))
     os.makedirs("out", exist_ok=True)

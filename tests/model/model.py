@@ -14,25 +14,25 @@ PROOFS = ROOT + "/crates/model/proofs"
 
 HEAD = """-- Jobs to be worked out (written by compare/model.py).
 -- Assumes nothing.
-use mathlib.Core.List.{List, [], _∷_}
-use mathlib.Core.Path.{_≡_, refl}
+use mathlib.Core.List.{List, [], ◌∷◌}
+use mathlib.Core.Path.{◌≡◌, refl}
 use lib.IntN.{pos, negsuc}
-use Rattle·model·specs.specs.Tree.{dir, file, link}
-use Rattle·model·specs.specs.Calls as Calls
-use Rattle·model·specs.specs.Calls.{State, freshState, Call}
-use Rattle·model·proofs.proofs.Computing.{bytes, call, callWith}
-use Rattle·model·proofs.proofs.Codes.{tracedNumber, answerNumber, stateNumber}
+use Rattle.model.specs.Tree.{dir, file, link}
+use Rattle.model.specs.Calls as Calls
+use Rattle.model.specs.Calls.{State, fresh_state, Call}
+use Rattle.model.proofs.Computing.{bytes, call, call_with}
+use Rattle.model.proofs.Codes.{traced_number, answer_number, state_number}
 """
 
 # word -> constructor of Op and its arguments: s the next text, n the next number, t the next number as a time
 SHAPES = {
-    "canon": ("canonicalize", "sn"), "cwd": ("setCurrentDir", "s"), "umask": ("setUmask", "n"), "mkdir": ("createDir", "st"),
-    "open": ("openFile", "nsnnt"), "read": ("readFile", "sn"), "write": ("writeFile", "sst"), "copy": ("copyFile", "sst"),
-    "hard": ("hardLink", "sst"), "link": ("linkFile", "sst"), "rmfile": ("removeFile", "s"), "rmdir": ("removeDir", "s"),
-    "rmtree": ("removeTree", "s"), "rename": ("rename", "sst"), "meta": ("metadata", "sn"), "lmeta": ("symlinkMetadata", "sn"),
-    "readlink": ("readLink", "sn"), "chmod": ("setPermissions", "sn"), "utimes": ("setTimes", "stt"), "list": ("list", "snn"),
-    "close": ("closeNumber", "n"), "readn": ("readNumber", "nn"), "seek": ("seekNumber", "nnn"), "setlen": ("setLength", "nn"),
-    "chmodn": ("setModeNumber", "nn"), "utimesn": ("setTimesNumber", "nntt"), "metan": ("metadataNumber", "nn"),
+    "canon": ("canonicalize", "sn"), "cwd": ("set_current_dir", "s"), "umask": ("set_umask", "n"), "mkdir": ("create_dir", "st"),
+    "open": ("open_file", "nsnnt"), "read": ("read_file", "sn"), "write": ("write_file", "sst"), "copy": ("copy_file", "sst"),
+    "hard": ("hard_link", "sst"), "link": ("link_file", "sst"), "rmfile": ("remove_file", "s"), "rmdir": ("remove_dir", "s"),
+    "rmtree": ("remove_tree", "s"), "rename": ("rename", "sst"), "meta": ("metadata", "sn"), "lmeta": ("symlink_metadata", "sn"),
+    "readlink": ("read_link", "sn"), "chmod": ("set_permissions", "sn"), "utimes": ("set_times", "stt"), "list": ("list", "snn"),
+    "close": ("close_number", "n"), "readn": ("read_number", "nn"), "seek": ("seek_number", "nnn"), "setlen": ("set_length", "nn"),
+    "chmodn": ("set_mode_number", "nn"), "utimesn": ("set_times_number", "nntt"), "metan": ("metadata_number", "nn"),
 }
 
 
@@ -53,7 +53,7 @@ def call(line):
     fields = line.split(" ")
     make = "call"
     if fields[0].startswith("@"):
-        make = "callWith (record { first = %s; second = %s })" % tuple(fields.pop(0)[1:].split(","))
+        make = "call_with (record { first = %s; second = %s })" % tuple(fields.pop(0)[1:].split(","))
     texts = [bytes.fromhex(f[1:]) for f in fields[1:] if f.startswith("x")]
     nums = [int(f) for f in fields[1:] if not f.startswith("x")]
     name, shape = SHAPES[fields[0]]
@@ -170,12 +170,12 @@ def checked(source):
 def statement(i, job, pairs, wrong=False):
     """That job number i gives these (result, state) pairs; without states, these results. A wrong one has another last digit."""
     name, most, room, lines = job
-    told = "answerNumber" if pairs[0][1] is None else "tracedNumber"
+    told = "answer_number" if pairs[0][1] is None else "traced_number"
     number = packed([x for r, s in pairs for x in result_code(r) + ([] if s is None else state_digest(s))])
     own = "t999999" if wrong else "t%d" % i
     if wrong:
         number = number[:-1] + str((int(number[-1]) + 1) % 10)
-    return "%s : %s j%d (freshState %d %d) ≡ %s\nunfolding %s\n%s = refl\n" % (own, told, i, most, room, number, told, own)
+    return "%s : %s j%d (fresh_state %d %d) ≡ %s\nunfolding %s\n%s = refl\n" % (own, told, i, most, room, number, told, own)
 
 
 def agree(jobs, expected):
@@ -236,7 +236,7 @@ def show(steps):
     for i, (s, most, room, line) in enumerate(steps):
         source.append(job_text(i, "step", [line]))
         source.append("abbrev b%d : State\nb%d = %s\n" % (i, i, state_text(s, most, room)))
-        for k, f in (("a", "answerNumber"), ("s", "stateNumber")):
+        for k, f in (("a", "answer_number"), ("s", "state_number")):
             source.append("%s%d : %s j%d b%d ≡ 0\nunfolding %s\n%s%d = ?\n" % (k, i, f, i, i, f, k, i))
     out = checked("\n".join(source))
     found = {}

@@ -10,29 +10,29 @@ import model
 HEAD = """-- Random jobs, each call with what the Rust answered to it, or, for the added refusals, what 01 says: a sample of the comparison in
 -- tests/model, written by tests/model/record.py.
 -- Assumes nothing.
-use mathlib.Core.List.{List, [], _∷_}
-use mathlib.Core.Path.{_≡_, refl}
+use mathlib.Core.List.{List, [], ◌∷◌}
+use mathlib.Core.Path.{◌≡◌, refl}
 use Prim.Native.Nat.{ℕ}
 use lib.IntN.{pos, negsuc}
-use Rattle·text.specs.Utf8.{Bytes}
-use Rattle·model·specs.specs.Tree.{Time}
-use Rattle·model·specs.specs.Prog.{Kind, aDir, aFile, aLink, Stat}
-use Rattle·model·specs.specs.Operations.{plainReply, numberReply, bytesReply}
-use Rattle·model·specs.specs.Calls as Calls
-use Rattle·model·specs.specs.Calls.{freshState, Call, Result, accepted, refusal}
-use Rattle·model·proofs.proofs.Computing.{bytes, answered, call}
+use Rattle.text.specs.Utf8.{Bytes}
+use Rattle.model.specs.Tree.{Time}
+use Rattle.model.specs.Prog.{Kind, a_dir, aFile, a_link, Stat}
+use Rattle.model.specs.Operations.{plain_reply, number_reply, bytes_reply}
+use Rattle.model.specs.Calls as Calls
+use Rattle.model.specs.Calls.{fresh_state, Call, Result, accepted, refusal}
+use Rattle.model.proofs.Computing.{bytes, answered, call}
 
 -- accepted with the link count alone
 abbrev done : ℕ → Result
-done k = accepted (plainReply k)
+done k = accepted (plain_reply k)
 
 -- with a number
 abbrev num : ℕ → ℕ → Result
-num n k = accepted (numberReply n k)
+num n k = accepted (number_reply n k)
 
 -- with bytes
 abbrev txt : Bytes → ℕ → Result
-txt s k = accepted (bytesReply s k)
+txt s k = accepted (bytes_reply s k)
 
 -- a record: kind, length, mode, then the times accessed, changed, created, modified
 abbrev row : Kind → ℕ → ℕ → Time → Time → Time → Time → Stat
@@ -40,15 +40,15 @@ row k size mode a c b m = record { kind = k; size = size; meta = record { mode =
 
 -- with bytes and records
 abbrev rows : ℕ → Bytes → List Stat → ℕ → Result
-rows n s rs k = accepted (record { number = n; out = s; rows = rs; linkCount = k })
+rows n s rs k = accepted (record { number = n; out = s; rows = rs; link_count = k })
 
 -- a call, and what it answered
 pub record Line : Type 0 where
   pub call : Call
   pub answer : Result
 
-infixl 20 _gives_
-abbrev _gives_ : Call → Result → Line
+infixl 20 ◌gives◌
+abbrev ◌gives◌ : Call → Result → Line
 c gives r = record { call = c; answer = r }
 
 -- a job on a fresh state with these limits
@@ -58,23 +58,23 @@ pub record Job : Type 0 where
   pub lines : List Line
 
 -- its calls
-unfoldable pub callsOf : List Line → List Call
-callsOf [] = []
-callsOf (l ∷ ls) = l .call ∷ callsOf ls
+unfoldable pub calls_of : List Line → List Call
+calls_of [] = []
+calls_of (l ∷ ls) = l.call ∷ calls_of ls
 
 -- its answers
-unfoldable pub answersOf : List Line → List Result
-answersOf [] = []
-answersOf (l ∷ ls) = l .answer ∷ answersOf ls
+unfoldable pub answers_of : List Line → List Result
+answers_of [] = []
+answers_of (l ∷ ls) = l.answer ∷ answers_of ls
 
 -- each call of the job answers so
 abbrev pub AnswersSo : Job → Type 0
-AnswersSo j = answered (callsOf (j .lines)) (freshState (j .most) (j .room)) ≡ answersOf (j .lines)
+AnswersSo j = answered (calls_of j.lines) (fresh_state j.most j.room) ≡ answers_of j.lines
 """
 
 
 def stat(s):
-    kind = {"d": "aDir", "f": "aFile", "l": "aLink"}[s[0]]
+    kind = {"d": "a_dir", "f": "aFile", "l": "a_link"}[s[0]]
     return "row %s %d 0o%o %s" % (kind, s[1], s[2], " ".join(model.time(t) for t in s[3]))
 
 
@@ -115,9 +115,9 @@ def main():
             for line, r in zip(lines, results):
                 print("          (%s gives %s) ∷" % (model.call(line), answer(r)))
             print("          [];\n    }\n")
-            print("%s-so : AnswersSo %s\nunfolding answered callsOf answersOf\n%s-so = refl\n" % (name, name, name))
+            print("%s_so : AnswersSo %s\nunfolding answered calls_of answers_of\n%s_so = refl\n" % (name, name, name))
     print("-- every job answers as recorded\npub recorded : %s" % " × ".join("AnswersSo %s" % n for n in names))
-    print("recorded = (%s)" % ", ".join("%s-so" % n for n in names))
+    print("recorded = (%s)" % ", ".join("%s_so" % n for n in names))
 
 
 main()
