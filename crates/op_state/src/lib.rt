@@ -1,3 +1,4 @@
+#![tactic(auto)]
 // The operations that set the umask and the current directory.
 ghost use Rattle.std.specs.Prelude.{take};
 ghost use Rattle.path.specs.Path.{names};
