@@ -1,3 +1,4 @@
+#![tactic(auto)]
 // What is read back beside the calls of a job: the current directory, what is used and allowed, the file numbers.
 ghost use Rattle.layout.specs.Lent.{◌∘◌, with_words, with_records, with_heads, with_paths, still};
 ghost use Rattle.layout.specs.Lent.{◌&◌};
