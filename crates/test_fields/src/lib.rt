@@ -1,3 +1,4 @@
+#![tactic(auto)]
 // The fields of a line of text, for the programs that read cases. Only for tests.
 ghost use Rattle.std.specs.Prelude.{◌≤◌, length};
 
