@@ -1,6 +1,19 @@
-// The numbers of a line.
+// What is read, and the numbers of a line.
+ghost use Rattle.std.specs.Prelude.{◌≡◌, IfOk, IfSome, take};
+
 use crate::text::wide;
+use std::alloc::Global;
+use std::io::{Read, Result};
 use test_fields::at;
+
+// The first 65,536 bytes of what is read, or all where there are fewer.
+pub fn input<R: Read + Drop>(alloc: Global, from: R) -> Result<Vec<u8>>
+    ensures { IfOk result (λ s. IfSome (R.remaining from) (λ xs. s.items ≡ take 65536 xs)) }
+{
+    let mut bytes = Vec::new(alloc);
+    from.take(65536).read_to_end(&mut bytes)?;
+    Ok(bytes)
+}
 
 // A digit, decimal or hexadecimal in small letters.
 fn digit(b: u8) -> u64 {

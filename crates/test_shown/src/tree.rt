@@ -1,5 +1,6 @@
 // The entries of a store, read back from its slices as docs/LAYOUT.md says.
 use crate::text::{say, say_mode, say_number, say_short};
+use std::io::{Result, Write};
 use test_fields::front;
 
 // The word at i, or 0 behind the end.
@@ -66,9 +67,9 @@ pub fn bytes_start(heads: &[u64], room: usize, k: usize) -> usize {
     left
 }
 
-fn say_name(records: &[u64], bytes: &[u8], i: usize) {
+fn say_name<W: Write>(out: &mut W, records: &[u64], bytes: &[u8], i: usize) -> Result<()> {
     let from = name_start(records, bytes.len(), i);
-    say_short(part(bytes, from, name_length(word(records, i))));
+    say_short(out, part(bytes, from, name_length(word(records, i))))
 }
 
 // The last record up to i that has depth d: it is i, or a directory above it.
@@ -84,56 +85,68 @@ fn above(records: &[u64], i: usize, d: u64) -> usize {
 }
 
 // A slash before each name; the root is one slash.
-pub fn say_path(records: &[u64], bytes: &[u8], i: usize) {
+pub fn say_path<W: Write>(out: &mut W, records: &[u64], bytes: &[u8], i: usize) -> Result<()> {
     let d = depth(word(records, i));
     if d == 0 {
-        say(b"/");
+        say(out, b"/")?;
     }
     let mut k = 0;
     while k < d {
         k += 1;
-        say(b"/");
-        say_name(records, bytes, above(records, i, k));
+        say(out, b"/")?;
+        say_name(out, records, bytes, above(records, i, k))?;
     }
+    Ok(())
 }
 
-fn say_kind(kind: u64) {
+fn say_kind<W: Write>(out: &mut W, kind: u64) -> Result<()> {
     if kind == 1 {
-        say(b" directory, mode ");
+        say(out, b" directory, mode ")
     } else if kind == 2 {
-        say(b" file, mode ");
+        say(out, b" file, mode ")
     } else if kind == 3 {
-        say(b" link, mode ");
+        say(out, b" link, mode ")
     } else {
-        say(b" ?, mode ");
+        say(out, b" ?, mode ")
     }
 }
 
 // Kind, mode, length and bytes of slot k.
-pub fn say_slot(heads: &[u64], bytes: &[u8], k: usize) {
+pub fn say_slot<W: Write>(out: &mut W, heads: &[u64], bytes: &[u8], k: usize) -> Result<()> {
     let h = word(heads, k);
     let n = (h % 16777216) as usize;
-    say_kind(h / 16777216 % 256);
-    say_mode(h / 4294967296);
-    say(b", bytes ");
-    say_number(n as u64);
+    say_kind(out, h / 16777216 % 256)?;
+    say_mode(out, h / 4294967296)?;
+    say(out, b", bytes ")?;
+    say_number(out, n as u64)?;
     if n > 0 {
-        say(b": ");
+        say(out, b": ")?;
     }
-    say_short(part(bytes, bytes_start(heads, bytes.len(), k), n));
-    say(b"\n");
+    say_short(out, part(bytes, bytes_start(heads, bytes.len(), k), n))?;
+    say(out, b"\n")
 }
 
-fn say_entry(records: &[u64], heads: &[u64], bytes: &[u8], i: usize) {
-    say_path(records, bytes, i);
-    say_slot(heads, bytes, (word(records, i) / 16777216) as usize);
+fn say_entry<W: Write>(
+    out: &mut W,
+    records: &[u64],
+    heads: &[u64],
+    bytes: &[u8],
+    i: usize,
+) -> Result<()> {
+    say_path(out, records, bytes, i)?;
+    say_slot(out, heads, bytes, (word(records, i) / 16777216) as usize)
 }
 
 // The first `count` records.
-pub fn say_tree(records: &[u64], heads: &[u64], bytes: &[u8], count: usize) {
-    let mut i = 0;
-    while i < count {
-        say_entry(records, heads, bytes, i);
-        i += 1;
+pub fn say_tree<W: Write>(
+    out: &mut W,
+    records: &[u64],
+    heads: &[u64],
+    bytes: &[u8],
+    count: usize,
+) -> Result<()> {
+    for i in 0..count {
+        say_entry(out, records, heads, bytes, i)?;
     }
+    Ok(())
 }
