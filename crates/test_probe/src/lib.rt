@@ -94,8 +94,8 @@ pub extern "C" fn probe_raw(out: &mut [u8], path: &[u8]) -> u64
     number(raw_path(out, path))
 }
 
-fn which(p: Place) -> u32
-    ensures { result ≡ which_of p }
+fn which(p: &Place) -> u32
+    ensures { result ≡ which_of p.now }
 {
     match p {
         Place::InPath(_, _) => 1,
@@ -104,22 +104,22 @@ fn which(p: Place) -> u32
     }
 }
 
-fn starts_at(p: Place) -> u64
-    ensures { result ≡ from_of p }
+fn starts_at(p: &Place) -> u64
+    ensures { result ≡ from_of p.now }
 {
     match p {
-        Place::InPath(a, _) => a as u64,
-        Place::InCwd(a, _) => a as u64,
+        Place::InPath(a, _) => *a as u64,
+        Place::InCwd(a, _) => *a as u64,
         Place::Nowhere => 0,
     }
 }
 
-fn ends_at(p: Place) -> u64
-    ensures { result ≡ to_of p }
+fn ends_at(p: &Place) -> u64
+    ensures { result ≡ to_of p.now }
 {
     match p {
-        Place::InPath(_, e) => e as u64,
-        Place::InCwd(_, e) => e as u64,
+        Place::InPath(_, e) => *e as u64,
+        Place::InCwd(_, e) => *e as u64,
         Place::Nowhere => 0,
     }
 }
@@ -130,9 +130,9 @@ pub extern "C" fn probe_last(path: &[u8], cwd: &[u8], from: &mut u64, to: &mut u
     ensures { LastAt path.now cwd.now result from.new to.new }
 {
     let p = last_place(path, cwd);
-    *from = starts_at(p);
-    *to = ends_at(p);
-    which(p)
+    *from = starts_at(&p);
+    *to = ends_at(&p);
+    which(&p)
 }
 
 // The bytes of s from `at` on.

@@ -1,3 +1,4 @@
+#![tactic(auto)]
 // Reads cases from standard input, one a line, and writes what `text` and `path` answer to each.
 //
 // A line is a word and its arguments, split by single spaces:
@@ -8,49 +9,53 @@
 mod answers;
 
 use crate::answers::{four_args, one_arg, two_args};
+use std::io::{self, BufWriter, Write};
 use test_fields::{at, find, spaces};
+use test_shown::read::input;
+use test_shown::text::{say, say_number};
 
 // One line, with its number.
-fn answer(number: u64, line: &[u8]) {
+fn answer<W: Write>(out: &mut W, number: u64, line: &[u8]) -> io::Result<()> {
     if at(line, 0) == b'#' {
-        return;
+        return Ok(());
     }
-    io::print_decimal(1, number);
-    io::write_all(1, b" ");
+    say_number(out, number)?;
+    say(out, b" ")?;
     if line.len() > 4096 {
-        io::write_all(1, b"?\n");
-        return;
+        return say(out, b"?\n");
     }
     let n = spaces(line);
     if n == 1 {
-        one_arg(line);
+        one_arg(out, line)?;
     } else if n == 2 {
-        two_args(line);
+        two_args(out, line)?;
     } else if n == 4 {
-        four_args(line);
+        four_args(out, line)?;
     } else {
-        io::write_all(1, b"?");
+        say(out, b"?")?;
     }
-    io::write_all(1, b"\n");
+    say(out, b"\n")
 }
 
 // Each line of s; a last one needs no newline behind it.
-fn answer_all(s: &[u8]) {
+fn answer_all<W: Write>(out: &mut W, s: &[u8]) -> io::Result<()> {
     let mut from = 0;
     let mut number = 0;
     while from < s.len() {
         let e = find(s, from, b'\n');
         number += 1;
-        answer(number, &s[from..e]);
+        answer(out, number, &s[from..e])?;
         from = e + 1;
     }
+    Ok(())
 }
 
-fn main() {
-    let mut space = io::large_buffer();
-    let n = io::read_full(0, &mut space);
-    answer_all(&space[..n]);
-    if n == 65536 {
-        io::write_all(1, b"more than 65,535 bytes: the rest is not read\n");
+fn main(rt: HostRuntime) -> io::Result<()> {
+    let s = input(rt.alloc(), rt.reader())?;
+    let mut out = BufWriter::new(rt.alloc(), io::writer(&rt))?;
+    answer_all(&mut out, s.as_slice())?;
+    if s.len() == 65536 {
+        say(&mut out, b"more than 65,535 bytes: the rest is not read\n")?;
     }
+    out.flush()
 }
