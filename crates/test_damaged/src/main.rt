@@ -1,3 +1,4 @@
+#![tactic(auto)]
 // Makes the tree K of docs/LAYOUT.md word by word, reads it back, and then makes a store for each case of standard input, changes
 // it, and writes what the test of refusal 1 says of it.
 //
@@ -11,7 +12,9 @@ mod read;
 mod store;
 mod tried;
 
+use std::io::{self, BufWriter, Write};
 use test_fields::{at, find, front};
+use test_shown::read::input;
 
 // What stands behind the colon and its space.
 fn behind(line: &[u8], e: usize) -> &[u8] {
@@ -24,27 +27,29 @@ fn behind(line: &[u8], e: usize) -> &[u8] {
     &line[e + 2..]
 }
 
-fn case(line: &[u8]) {
+fn case<W: Write>(out: &mut W, line: &[u8]) -> io::Result<()> {
     if at(line, 0) == b'#' {
-        return;
+        return Ok(());
     }
     let e = find(line, 0, b':');
-    tried::tried(front(line, e), behind(line, e));
+    tried::tried(out, front(line, e), behind(line, e))
 }
 
 // Each line of s.
-fn cases(s: &[u8]) {
+fn cases<W: Write>(out: &mut W, s: &[u8]) -> io::Result<()> {
     let mut from = 0;
     while from < s.len() {
         let e = find(s, from, b'\n');
-        case(&s[from..e]);
+        case(out, &s[from..e])?;
         from = e + 1;
     }
+    Ok(())
 }
 
-fn main() {
-    tried::shown_k();
-    let mut space = io::large_buffer();
-    let n = io::read_full(0, &mut space);
-    cases(&space[..n]);
+fn main(rt: HostRuntime) -> io::Result<()> {
+    let mut out = BufWriter::new(rt.alloc(), io::writer(&rt))?;
+    tried::shown_k(&mut out)?;
+    let s = input(rt.alloc(), rt.reader())?;
+    cases(&mut out, s.as_slice())?;
+    out.flush()
 }

@@ -1,4 +1,5 @@
 // The places of a line.
+use std::io::{Result, Write};
 use test_fields::same;
 use test_shown::text::say;
 
@@ -21,38 +22,38 @@ pub const PATHS_A: u64 = 7;
 pub const BYTES_A: u64 = 8;
 
 // What a change is of: a slice; the length that is handed over; letters.
-pub fn place_of(word: &[u8]) -> u64 {
+pub fn place_of<W: Write>(out: &mut W, word: &[u8]) -> Result<u64> {
     if same(word, b"words") {
-        return WORDS;
+        return Ok(WORDS);
     }
     if same(word, b"records") {
-        return RECORDS;
+        return Ok(RECORDS);
     }
     if same(word, b"heads") {
-        return HEADS;
+        return Ok(HEADS);
     }
     if same(word, b"times") {
-        return TIMES;
+        return Ok(TIMES);
     }
     if same(word, b"paths") {
-        return PATHS;
+        return Ok(PATHS);
     }
     if same(word, b"bytes") {
-        return BYTES;
+        return Ok(BYTES);
     }
-    letters_or_length(word)
+    letters_or_length(out, word)
 }
 
-fn letters_or_length(word: &[u8]) -> u64 {
+fn letters_or_length<W: Write>(out: &mut W, word: &[u8]) -> Result<u64> {
     if same(word, b"length") {
-        return LENGTH;
+        return Ok(LENGTH);
     }
     if same(word, b"letters-in-paths") {
-        return PATHS_A;
+        return Ok(PATHS_A);
     }
     if same(word, b"letters-in-bytes") {
-        return BYTES_A;
+        return Ok(BYTES_A);
     }
-    say(b"? ");
-    9
+    say(out, b"? ")?;
+    Ok(9)
 }

@@ -1,5 +1,6 @@
 // The slices of a store, changed word by word. A change that stands behind the end of its slice changes nothing.
 use crate::read::{BYTES, BYTES_A, HEADS, LENGTH, PATHS, PATHS_A, RECORDS, TIMES, WORDS, place_of};
+use std::io::{Result, Write};
 use test_fields::{field, front, spaces};
 use test_shown::read::number;
 
@@ -94,7 +95,8 @@ fn change_words(
 }
 
 // The change that begins with field k of the line.
-fn change_one(
+fn change_one<W: Write>(
+    out: &mut W,
     words: &mut [u64],
     records: &mut [u64],
     heads: &mut [u64],
@@ -104,19 +106,21 @@ fn change_one(
     lengths: &mut [u64],
     line: &[u8],
     k: usize,
-) {
+) -> Result<()> {
     if 4096 < k {
-        return;
+        return Ok(());
     }
-    let place = place_of(field(line, k));
+    let place = place_of(out, field(line, k))?;
     let at = number(field(line, k + 1)) as usize;
     let v = number(field(line, k + 2));
     change_words(words, records, heads, times, lengths, place, at, v);
     change_bytes(paths, bytes, place, at, v);
+    Ok(())
 }
 
 // All changes of the line, which stand behind its first two fields.
-pub fn change(
+pub fn change<W: Write>(
+    out: &mut W,
     words: &mut [u64],
     records: &mut [u64],
     heads: &mut [u64],
@@ -125,17 +129,18 @@ pub fn change(
     bytes: &mut [u8],
     lengths: &mut [u64],
     line: &[u8],
-) {
+) -> Result<()> {
     let n = spaces(line);
     if 4096 < n {
-        return;
+        return Ok(());
     }
     let mut k = 2;
     while k < n {
         let from = k;
         k += 3;
         change_one(
-            words, records, heads, times, paths, bytes, lengths, line, from,
-        );
+            out, words, records, heads, times, paths, bytes, lengths, line, from,
+        )?;
     }
+    Ok(())
 }

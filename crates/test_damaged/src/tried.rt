@@ -1,5 +1,6 @@
 // One case: a good store made anew, changed, and what the test of refusal 1 says of it.
 use crate::store::{change, put_text, put_word, put_words};
+use std::io::{Result, Write};
 use test_fields::{field, front, same};
 use test_shown::read::number;
 use test_shown::text::{say, say_number};
@@ -87,54 +88,54 @@ fn accepted(
     )
 }
 
-fn say_answer(ok: bool) {
+fn say_answer<W: Write>(out: &mut W, ok: bool) -> Result<()> {
     if ok {
-        say(b": accepted\n");
-        return;
+        return say(out, b": accepted\n");
     }
-    say(b": refused\n");
+    say(out, b": refused\n")
 }
 
-fn say_case(rule: u64, what: &[u8], ok: bool) {
+fn say_case<W: Write>(out: &mut W, rule: u64, what: &[u8], ok: bool) -> Result<()> {
     if rule == 0 {
-        say(b"no rule: ");
+        say(out, b"no rule: ")?;
     } else {
-        say(b"rule ");
-        say_number(rule);
-        say(b": ");
+        say(out, b"rule ")?;
+        say_number(out, rule)?;
+        say(out, b": ")?;
     }
-    say(what);
-    say_answer(ok);
+    say(out, what)?;
+    say_answer(out, ok)
 }
 
 // What a store of that kind holds, in what set up has left.
-fn fill(
+fn fill<W: Write>(
+    out: &mut W,
     words: &mut [u64],
     records: &mut [u64],
     heads: &mut [u64],
     paths: &mut [u8],
     bytes: &mut [u8],
     kind: &[u8],
-) {
+) -> Result<()> {
     if same(kind, b"root") {
         root(words, records, heads);
-        return;
+        return Ok(());
     }
     if same(kind, b"empty") {
-        return;
+        return Ok(());
     }
     if !same(kind, b"k") {
-        say(b"? ");
-        return;
+        return say(out, b"? ");
     }
     tree_k(words, records, heads);
     bytes_k(bytes);
     opened(words, heads, paths);
+    Ok(())
 }
 
 // One case: a line's fields, and what it says in words. The storage is longer than 16 entries and 256 bytes ask, and but for slots
 // and times it does not hold zeros.
-pub fn tried(line: &[u8], what: &[u8]) {
+pub fn tried<W: Write>(out: &mut W, line: &[u8], what: &[u8]) -> Result<()> {
     let mut words = [77u64; 103];
     let mut records = [77u64; 4097];
     let mut heads = [0u64; 4129];
@@ -150,13 +151,14 @@ pub fn tried(line: &[u8], what: &[u8]) {
     let b: &mut [u8] = &mut bytes;
     let l: &mut [u64] = &mut lengths;
     setup::set_up(w, r, h, t, p, b, 16, 256);
-    fill(w, r, h, p, b, field(line, 1));
-    change(w, r, h, t, p, b, l, line);
-    say_case(number(field(line, 0)), what, accepted(w, r, h, t, p, b, l));
+    fill(out, w, r, h, p, b, field(line, 1))?;
+    change(out, w, r, h, t, p, b, l, line)?;
+    let ok = accepted(w, r, h, t, p, b, l);
+    say_case(out, number(field(line, 0)), what, ok)
 }
 
 // Tree K as the page has it, read back, and what the test says of it.
-pub fn shown_k() {
+pub fn shown_k<W: Write>(out: &mut W) -> Result<()> {
     let mut words = [77u64; 102];
     let mut records = [77u64; 16];
     let mut heads = [77u64; 48];
@@ -171,10 +173,12 @@ pub fn shown_k() {
     tree_k(w, r, h);
     bytes_k(b);
     say_tree(
+        out,
         r,
         front_words(h, word(w, 101) as usize),
         b,
         word(w, 2) as usize,
-    );
-    say_case(0, b"tree K", lawful::store_ok(w, r, h, &times, &paths, b));
+    )?;
+    let ok = lawful::store_ok(w, r, h, &times, &paths, b);
+    say_case(out, 0, b"tree K", ok)
 }

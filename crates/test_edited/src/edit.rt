@@ -44,8 +44,8 @@ fn insert(
     line: &[u8],
     kind: u64,
 ) -> bool {
-    let mut name = io::buffer();
-    let mut text = io::buffer();
+    let mut name = [0u8; 4096];
+    let mut text = [0u8; 4096];
     let n = decode(&mut name, 0, field(line, 2));
     if n > 4096 {
         return false;
@@ -79,7 +79,7 @@ fn carry(
     bytes: &mut [u8],
     line: &[u8],
 ) -> bool {
-    let mut name = io::buffer();
+    let mut name = [0u8; 4096];
     let n = decode(&mut name, 0, field(line, 3));
     if n > 4096 {
         return false;
@@ -108,7 +108,7 @@ fn contents(
     bytes: &mut [u8],
     line: &[u8],
 ) -> bool {
-    let mut text = io::buffer();
+    let mut text = [0u8; 4096];
     let m = decode(&mut text, 0, field(line, 2));
     if m > 4096 {
         return false;
@@ -214,7 +214,7 @@ fn by_path(
     line: &[u8],
     k: usize,
 ) -> bool {
-    let mut path = io::buffer();
+    let mut path = [0u8; 4096];
     let n = decode(&mut path, 0, field(line, k));
     if n > 4096 {
         return false;

@@ -1,3 +1,4 @@
+#![tactic(auto)]
 // Sets up a store of 40 entries and 1,024 bytes, and makes each edit of standard input in it. Writes behind each line whether the
 // edit was made, and where it was, the store, read back from its slices.
 //
@@ -16,18 +17,20 @@
 mod edit;
 mod store;
 
+use std::io::{self, BufWriter, Write};
 use test_fields::{at, find};
+use test_shown::read::input;
 use test_shown::text::say;
 
-fn say_answer(made: bool) {
+fn say_answer<W: Write>(out: &mut W, made: bool) -> io::Result<()> {
     if made {
-        say(b": done\n");
-        return;
+        return say(out, b": done\n");
     }
-    say(b": refused\n");
+    say(out, b": refused\n")
 }
 
-fn one(
+fn one<W: Write>(
+    out: &mut W,
     words: &mut [u64],
     records: &mut [u64],
     heads: &mut [u64],
@@ -35,21 +38,23 @@ fn one(
     paths: &mut [u8],
     bytes: &mut [u8],
     line: &[u8],
-) {
+) -> io::Result<()> {
     if at(line, 0) == b'#' {
-        return;
+        return Ok(());
     }
     let made = edit::edit(words, records, heads, times, paths, bytes, line);
-    say(b"> ");
-    say(line);
-    say_answer(made);
+    say(out, b"> ")?;
+    say(out, line)?;
+    say_answer(out, made)?;
     if made {
-        store::say_store(words, records, heads, times, paths, bytes);
+        store::say_store(out, words, records, heads, times, paths, bytes)?;
     }
+    Ok(())
 }
 
 // Each line of s.
-fn all(
+fn all<W: Write>(
+    out: &mut W,
     words: &mut [u64],
     records: &mut [u64],
     heads: &mut [u64],
@@ -57,16 +62,17 @@ fn all(
     paths: &mut [u8],
     bytes: &mut [u8],
     s: &[u8],
-) {
+) -> io::Result<()> {
     let mut from = 0;
     while from < s.len() {
         let e = find(s, from, b'\n');
-        one(words, records, heads, times, paths, bytes, &s[from..e]);
+        one(out, words, records, heads, times, paths, bytes, &s[from..e])?;
         from = e + 1;
     }
+    Ok(())
 }
 
-fn edits(s: &[u8]) {
+fn edits<W: Write>(out: &mut W, s: &[u8]) -> io::Result<()> {
     let mut words = [77u64; 102];
     let mut records = [77u64; 40];
     let mut heads = [77u64; 72];
@@ -80,11 +86,12 @@ fn edits(s: &[u8]) {
     let p: &mut [u8] = &mut paths;
     let b: &mut [u8] = &mut bytes;
     setup::set_up(w, r, h, t, p, b, 40, 1024);
-    all(w, r, h, t, p, b, s);
+    all(out, w, r, h, t, p, b, s)
 }
 
-fn main() {
-    let mut space = io::large_buffer();
-    let n = io::read_full(0, &mut space);
-    edits(&space[..n]);
+fn main(rt: HostRuntime) -> io::Result<()> {
+    let s = input(rt.alloc(), rt.reader())?;
+    let mut out = BufWriter::new(rt.alloc(), io::writer(&rt))?;
+    edits(&mut out, s.as_slice())?;
+    out.flush()
 }

@@ -1,4 +1,5 @@
 // A store, read back from its slices as docs/LAYOUT.md says.
+use std::io::{Result, Write};
 use test_shown::text::{say, say_mode, say_number, say_short};
 use test_shown::tree::{bytes_start, front_words, name_start, part, say_path, say_slot, word};
 
@@ -11,85 +12,113 @@ fn since(t: i64) -> u64 {
 }
 
 // The time at i.
-fn say_time(times: &[i64], i: usize) {
+fn say_time<W: Write>(out: &mut W, times: &[i64], i: usize) -> Result<()> {
     if i < times.len() {
-        say_number(since(times[i]));
+        say_number(out, since(times[i]))?;
     }
+    Ok(())
 }
 
 // The number of slot k, and its four times.
-fn say_times(times: &[i64], k: usize) {
-    say(b" [");
-    say_number(k as u64);
-    say(b": ");
+fn say_times<W: Write>(out: &mut W, times: &[i64], k: usize) -> Result<()> {
+    say(out, b" [")?;
+    say_number(out, k as u64)?;
+    say(out, b": ")?;
     if times.len() <= k {
-        return;
+        return Ok(());
     }
     let i = k * 4;
-    say_time(times, i);
-    say(b" ");
-    say_time(times, i + 1);
-    say(b" ");
-    say_time(times, i + 2);
-    say(b" ");
-    say_time(times, i + 3);
-    say(b"]");
+    say_time(out, times, i)?;
+    say(out, b" ")?;
+    say_time(out, times, i + 1)?;
+    say(out, b" ")?;
+    say_time(out, times, i + 2)?;
+    say(out, b" ")?;
+    say_time(out, times, i + 3)?;
+    say(out, b"]")
 }
 
-fn say_entry(records: &[u64], heads: &[u64], times: &[i64], bytes: &[u8], i: usize) {
+fn say_entry<W: Write>(
+    out: &mut W,
+    records: &[u64],
+    heads: &[u64],
+    times: &[i64],
+    bytes: &[u8],
+    i: usize,
+) -> Result<()> {
     let k = (word(records, i) / 16777216) as usize;
-    say_number(i as u64);
-    say(b" ");
-    say_path(records, bytes, i);
-    say_times(times, k);
-    say_slot(heads, bytes, k);
+    say_number(out, i as u64)?;
+    say(out, b" ")?;
+    say_path(out, records, bytes, i)?;
+    say_times(out, times, k)?;
+    say_slot(out, heads, bytes, k)
 }
 
-fn say_entries(records: &[u64], heads: &[u64], times: &[i64], bytes: &[u8], count: usize) {
-    let mut i = 0;
-    while i < count {
-        say_entry(records, heads, times, bytes, i);
-        i += 1;
+fn say_entries<W: Write>(
+    out: &mut W,
+    records: &[u64],
+    heads: &[u64],
+    times: &[i64],
+    bytes: &[u8],
+    count: usize,
+) -> Result<()> {
+    for i in 0..count {
+        say_entry(out, records, heads, times, bytes, i)?;
     }
+    Ok(())
 }
 
 // The path of n bytes in cell i; the root is one slash.
-fn say_cell(paths: &[u8], i: usize, n: usize) {
+fn say_cell<W: Write>(out: &mut W, paths: &[u8], i: usize, n: usize) -> Result<()> {
     if 32 < i {
-        return;
+        return Ok(());
     }
     if n == 0 {
-        say(b"/");
+        say(out, b"/")?;
     }
-    say_short(part(paths, 1024 * i, n));
+    say_short(out, part(paths, 1024 * i, n))
 }
 
 // File number n, where it is open.
-fn say_open(words: &[u64], heads: &[u64], times: &[i64], paths: &[u8], bytes: &[u8], n: usize) {
+fn say_open<W: Write>(
+    out: &mut W,
+    words: &[u64],
+    heads: &[u64],
+    times: &[i64],
+    paths: &[u8],
+    bytes: &[u8],
+    n: usize,
+) -> Result<()> {
     if 32 <= n {
-        return;
+        return Ok(());
     }
     let h = word(words, 5 + 3 * n);
     if h == 0 {
-        return;
+        return Ok(());
     }
     let k = (h - 1) as usize;
-    say(b"number ");
-    say_number(n as u64);
-    say(b" at ");
-    say_number(word(words, 6 + 3 * n));
-    say(b" on ");
-    say_cell(paths, n + 1, word(words, 7 + 3 * n) as usize);
-    say_times(times, k);
-    say_slot(heads, bytes, k);
+    say(out, b"number ")?;
+    say_number(out, n as u64)?;
+    say(out, b" at ")?;
+    say_number(out, word(words, 6 + 3 * n))?;
+    say(out, b" on ")?;
+    say_cell(out, paths, n + 1, word(words, 7 + 3 * n) as usize)?;
+    say_times(out, times, k)?;
+    say_slot(out, heads, bytes, k)
 }
 
-fn say_numbers(words: &[u64], heads: &[u64], times: &[i64], paths: &[u8], bytes: &[u8]) {
-    let mut n = 0;
-    while n < 32 {
-        say_open(words, heads, times, paths, bytes, n);
-        n += 1;
+fn say_numbers<W: Write>(
+    out: &mut W,
+    words: &[u64],
+    heads: &[u64],
+    times: &[i64],
+    paths: &[u8],
+    bytes: &[u8],
+) -> Result<()> {
+    for n in 0..32 {
+        say_open(out, words, heads, times, paths, bytes, n)?;
     }
+    Ok(())
 }
 
 // The bytes that all slots have.
@@ -101,30 +130,31 @@ fn held(heads: &[u64], room: usize) -> usize {
     room - from
 }
 
-pub fn say_store(
+pub fn say_store<W: Write>(
+    out: &mut W,
     words: &[u64],
     records: &[u64],
     heads: &[u64],
     times: &[i64],
     paths: &[u8],
     bytes: &[u8],
-) {
+) -> Result<()> {
     let count = word(words, 2) as usize;
     let slots = word(words, 101) as usize;
     let used = front_words(heads, slots);
-    say_entries(records, used, times, bytes, count);
-    say_numbers(words, used, times, paths, bytes);
-    say(b"umask ");
-    say_mode(word(words, 3));
-    say(b", current ");
-    say_cell(paths, 0, word(words, 4) as usize);
-    say(b"\nentries ");
-    say_number(count as u64);
-    say(b", bytes ");
-    say_number(name_start(records, bytes.len(), count) as u64);
-    say(b" + ");
-    say_number(held(used, bytes.len()) as u64);
-    say(b", slots ");
-    say_number(slots as u64);
-    say(b"\n");
+    say_entries(out, records, used, times, bytes, count)?;
+    say_numbers(out, words, used, times, paths, bytes)?;
+    say(out, b"umask ")?;
+    say_mode(out, word(words, 3))?;
+    say(out, b", current ")?;
+    say_cell(out, paths, 0, word(words, 4) as usize)?;
+    say(out, b"\nentries ")?;
+    say_number(out, count as u64)?;
+    say(out, b", bytes ")?;
+    say_number(out, name_start(records, bytes.len(), count) as u64)?;
+    say(out, b" + ")?;
+    say_number(out, held(used, bytes.len()) as u64)?;
+    say(out, b", slots ")?;
+    say_number(out, slots as u64)?;
+    say(out, b"\n")
 }
