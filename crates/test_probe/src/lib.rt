@@ -1,5 +1,6 @@
-// Only for tests and timing: what `text`, `path` and `lawful` answer, for C and Rust programs, by numbers and bytes. No function
-// asks anything of its caller.
+#![tactic(auto)]
+// Only for tests and timing: what `text`, `path` and `lawful` answer, by numbers and bytes; `test_probe_c` hands each function on to C
+// and Rust programs. No function asks anything of its caller.
 ghost use Rattle.std.specs.Prelude.{◌≡◌, cond, ◌++◌, ◌+◌, ◌≤◌, eqb, length, take, drop};
 ghost use Rattle.text.specs.Utf8.{text};
 ghost use Rattle.path.specs.Path.{names, normal, absolute, body, lengths_ok};
@@ -17,8 +18,7 @@ use path_form::{normalize_path, raw_path, to_absolute_path};
 use text::text_ok;
 
 // 0, or refusal 2.
-#[unsafe(no_mangle)]
-pub extern "C" fn probe_text(s: &[u8]) -> u32
+pub fn probe_text(s: &[u8]) -> u32
     ensures { result ≡ cond (text s.now) 0 2 }
 {
     if text_ok(s) {
@@ -28,24 +28,21 @@ pub extern "C" fn probe_text(s: &[u8]) -> u32
 }
 
 // A call that does nothing, given what `probe_text` is given: how long a call takes that looks at no byte.
-#[unsafe(no_mangle)]
-pub extern "C" fn probe_nothing_text(s: &[u8]) -> u32
+pub fn probe_nothing_text(s: &[u8]) -> u32
     ensures { result ≡ 0 }
 {
     0
 }
 
 // The same, given what `probe_normalize` is given.
-#[unsafe(no_mangle)]
-pub extern "C" fn probe_nothing_path(out: &mut [u8], path: &[u8]) -> u64
+pub fn probe_nothing_path(out: &mut [u8], path: &[u8]) -> u64
     ensures { (result ≡ 0) × (out.new ≡ out.old) }
 {
     0
 }
 
 // 0, or refusal 3.
-#[unsafe(no_mangle)]
-pub extern "C" fn probe_lengths(s: &[u8]) -> u32
+pub fn probe_lengths(s: &[u8]) -> u32
     ensures { result ≡ cond (lengths_ok s.now) 0 3 }
 {
     if lengths_ok(s) {
@@ -64,8 +61,7 @@ fn number(f: Formed) -> u64
     }
 }
 
-#[unsafe(no_mangle)]
-pub extern "C" fn probe_normalize(out: &mut [u8], path: &[u8]) -> u64
+pub fn probe_normalize(out: &mut [u8], path: &[u8]) -> u64
     ensures { Answers (body (normal path.now)) out.old out.new result }
 {
     if out.len() < 1024 {
@@ -74,8 +70,7 @@ pub extern "C" fn probe_normalize(out: &mut [u8], path: &[u8]) -> u64
     number(normalize_path(out, path))
 }
 
-#[unsafe(no_mangle)]
-pub extern "C" fn probe_absolute(out: &mut [u8], cwd: &[u8], path: &[u8]) -> u64
+pub fn probe_absolute(out: &mut [u8], cwd: &[u8], path: &[u8]) -> u64
     ensures { Answers (body (absolute (normal cwd.now) path.now)) out.old out.new result }
 {
     if out.len() < 1024 {
@@ -84,8 +79,7 @@ pub extern "C" fn probe_absolute(out: &mut [u8], cwd: &[u8], path: &[u8]) -> u64
     number(to_absolute_path(out, cwd, path))
 }
 
-#[unsafe(no_mangle)]
-pub extern "C" fn probe_raw(out: &mut [u8], path: &[u8]) -> u64
+pub fn probe_raw(out: &mut [u8], path: &[u8]) -> u64
     ensures { Answers (body (names path.now)) out.old out.new result }
 {
     if out.len() < 1024 {
@@ -125,8 +119,7 @@ fn ends_at(p: &Place) -> u64
 }
 
 // Where the last name stands: from `from` to `to`, of the path (1) or of the current directory (2); 0: the root has none.
-#[unsafe(no_mangle)]
-pub extern "C" fn probe_last(path: &[u8], cwd: &[u8], from: &mut u64, to: &mut u64) -> u32
+pub fn probe_last(path: &[u8], cwd: &[u8], from: &mut u64, to: &mut u64) -> u32
     ensures { LastAt path.now cwd.now result from.new to.new }
 {
     let p = last_place(path, cwd);
@@ -148,8 +141,7 @@ fn put(out: &mut [u8], at: usize, s: &[u8])
 }
 
 // The last name itself, and its length; 14 where it does not fit.
-#[unsafe(no_mangle)]
-pub extern "C" fn probe_last_name<'a>(out: &mut [u8], path: &'a [u8], cwd: &'a [u8]) -> u64
+pub fn probe_last_name<'a>(out: &mut [u8], path: &'a [u8], cwd: &'a [u8]) -> u64
     ensures { NameAnswers path.now cwd.now out.old out.new result }
 {
     let n = last_name(path, cwd);
@@ -175,14 +167,7 @@ fn follow_behind(out: &mut [u8], have: usize, behind: &[u8], name: usize, target
 
 // A link in the directory `dir`, met in the path whose bytes from the link's name on are `behind`; the name has `name` of
 // them. A million and 1: it has not so many; 2: directory and name and rest have more than 1,024 bytes.
-#[unsafe(no_mangle)]
-pub extern "C" fn probe_follow(
-    out: &mut [u8],
-    dir: &[u8],
-    behind: &[u8],
-    name: usize,
-    target: &[u8],
-) -> u64
+pub fn probe_follow(out: &mut [u8], dir: &[u8], behind: &[u8], name: usize, target: &[u8]) -> u64
     ensures { FollowAnswers (normal dir.now) behind.now name target.now out.old out.new result }
 {
     if behind.len() < name {
@@ -196,8 +181,7 @@ pub extern "C" fn probe_follow(
 }
 
 // 0 where the slices are a store, or refusal 1.
-#[unsafe(no_mangle)]
-pub extern "C" fn probe_store(
+pub fn probe_store(
     words: &[u64],
     records: &[u64],
     heads: &[u64],

@@ -29,7 +29,7 @@ fn child(
     ensures { result < count (lends words.now records.now heads.now times.now paths.now bytes.now)
         → (dir < count (lends words.now records.now heads.now times.now paths.now bytes.now))
         × (path_at (lends words.now records.now heads.now times.now paths.now bytes.now) result ≡ path_at
-            (lends words.now records.now heads.now times.now paths.now bytes.now) dir ++
+        (lends words.now records.now heads.now times.now paths.now bytes.now) dir ++
         (name.now ∷ [])) }
 {
     let count = words[COUNT_AT] as usize;

@@ -37,7 +37,7 @@ pub fn is_dir(
     requires { Lawful (lends words.now records.now heads.now times.now paths.now bytes.now) }
     ensures { result ≡ true → (i < count (lends words.now records.now heads.now times.now paths.now bytes.now))
         × (kind_at (lends words.now records.now heads.now times.now paths.now bytes.now) (slot_at
-            (lends words.now records.now heads.now times.now paths.now bytes.now) i) ≡ 1) }
+        (lends words.now records.now heads.now times.now paths.now bytes.now) i) ≡ 1) }
 {
     if words[COUNT_AT] as usize <= i {
         return false;
