@@ -1,6 +1,6 @@
 -- The numbers that this crate hands to a C or a Rust program, and what stands in its buffer.
 -- Assumes nothing.
-use Rattle.std.specs.Prelude.{Bool, ◌&&◌, cond, List, ◌++◌, ◌≡◌, ℕ, ◌+◌, ◌-◌, leb, length, take, drop}
+use Rattle.std.specs.Prelude.{Bool, ◌&&◌, cond, List, ◌++◌, ◌≡◌, ℕ, ◌+◌, leb, length, take, drop}
 use Rattle.text.specs.Utf8.{Bytes}
 use Rattle.path.specs.Path.{Name, names, normal, absolute, body, last_name}
 use Rattle.path.specs.Answer.{formed, written, PlaceIs}
