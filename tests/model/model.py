@@ -154,7 +154,7 @@ def checked(source):
         shutil.copy(HERE + "/Codes.antt", PROOFS)
         with open(PROOFS + "/Lib.antt", "w") as f:
             f.write(lib + "pub mod Codes\npub mod Check\n")
-        run = subprocess.run(["rt", "dev", "model"], cwd=ROOT, env={**os.environ, "RT_CUT": "0"}, stdout=subprocess.PIPE, stderr=subprocess.STDOUT)
+        run = subprocess.run(["rt", "check"], cwd=ROOT + "/crates/model", stdout=subprocess.PIPE, stderr=subprocess.STDOUT)
     finally:
         with open(PROOFS + "/Lib.antt", "w") as f:
             f.write(lib)

@@ -1,7 +1,7 @@
 #!/usr/bin/env python3
 """How sharp the comparison is: wrong edits of the model's definitions, each in a copy of the crates, must be found.
 
-mutants.py [NAME...], after a run, in target/model/compare: for each edit, how many of a sample of random jobs, and how many of the cases
+mutants.py [NAME...], after a run, in compare/ of the folder that the run works in: for each edit, how many of a sample of random jobs, and how many of the cases
 by hand, differ. Status 1 where one is not found."""
 import glob
 import os

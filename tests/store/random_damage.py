@@ -3,8 +3,9 @@
 
   python3 tests/store/random_damage.py COUNT SEED [PROGRAM]
 
-PROGRAM is target/bin/test_damaged where none is given. The same COUNT and SEED make the same lines. Writes how many stores were accepted and
-refused, by the lowest rule that is broken; ends with 1 where a verdict differs.
+PROGRAM is crates/test_damaged/out/test_damaged where none is given, which `rt run <stdin` in crates/test_damaged makes. The same COUNT and
+SEED make the same lines. Writes how many stores were accepted and refused, by the lowest rule that is broken; ends with 1 where a verdict
+differs.
 """
 import random
 import subprocess
@@ -79,7 +80,7 @@ def main():
     if len(sys.argv) not in (3, 4):
         sys.exit(__doc__)
     count, seed = int(sys.argv[1]), int(sys.argv[2])
-    program = sys.argv[3] if len(sys.argv) == 4 else 'target/bin/test_damaged'
+    program = sys.argv[3] if len(sys.argv) == 4 else 'crates/test_damaged/out/test_damaged'
     tally, differ = Counter(), []
     for batch in batches(made_lines(count, random.Random(seed))):
         compare(program, batch, tally, differ)

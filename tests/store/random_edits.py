@@ -3,8 +3,8 @@
 
   python3 tests/store/random_edits.py COUNT SEED [BINARY]
 
-COUNT edits in all, in scripts that each start from a fresh store and stay within what the program reads. BINARY is target/bin/test_edited
-where none is given. Writes how often each edit was made and refused, why, which states were reached, and how many scripts differ; ends
+COUNT edits in all, in scripts that each start from a fresh store and stay within what the program reads. BINARY is
+crates/test_edited/out/test_edited where none is given, which `rt run <stdin` in crates/test_edited makes. Writes how often each edit was made and refused, why, which states were reached, and how many scripts differ; ends
 with 1 where one does, after shortening the smallest such script.
 """
 import collections
@@ -524,7 +524,7 @@ def main():
     if len(sys.argv) not in (3, 4):
         sys.exit(__doc__)
     count, seed = int(sys.argv[1]), int(sys.argv[2])
-    binary = sys.argv[3] if len(sys.argv) == 4 else 'target/bin/test_edited'
+    binary = sys.argv[3] if len(sys.argv) == 4 else 'crates/test_edited/out/test_edited'
     rand = random.Random(seed)
     tally = Tally()
     differing = []
