@@ -1,3 +1,4 @@
+#![tactic(auto)]
 // The calls of the static library.
 pub mod back;
 pub mod look;
