@@ -1,3 +1,4 @@
+#![tactic(auto)]
 // Only for timing: an edit made many times in one store, for a C program. The store is tested once, since each edit leaves a store
 // that obeys the rules.
 use layout::EXTENT_AT;
