@@ -32,7 +32,7 @@ use Rattle.layout.specs.Parts.{path_after}
 use Rattle.layout.proofs.Edited.Inserting.{look-new}
 use Rattle.layout.proofs.Edited.Parted.{Has, has_first, tree_both, tree-slots, uses_both}
 use Rattle.layout.proofs.Edited.Shapes.{lawful-shape}
-use Rattle.layout.proofs.Edited.Telling.{renode, reopen, lives, matches-alike, same_alike}
+use Rattle.layout.proofs.Edited.Telling.{renode, reopen, matches-alike, same_alike}
 use Rattle.edit_entry.specs.Growth.{new_meta, Grown}
 use Rattle.edit_entry.proofs.Counted.{same_most, same_room, same_mask, same_opens, same_here}
 use Rattle.edit_entry.proofs.Growing.{other_head, other_bytes, other_meta, new-head, new-bytes, new-meta, same_node, grown-lawful}

@@ -18,7 +18,7 @@ use Rattle.model.proofs.Demand.Contents.{or_elim, or_right}
 use Rattle.model.proofs.Entries.{is_true, is_false, of_true, apart-cut}
 use Rattle.layout.specs.Fields.{kind_of}
 use Rattle.layout.specs.Rows.{Row, tree_from}
-use Rattle.layout.specs.Store.{Store, room, count, rows_of, meta_at, bytes_at, kind_at, node_at, state, slots_for}
+use Rattle.layout.specs.Store.{Store, count, rows_of, meta_at, bytes_at, kind_at, node_at, state, slots_for}
 use Rattle.layout.specs.Lawful.{rows_ok, uses, held_from, slot_by, slot_ok, Lawful}
 use Rattle.layout.specs.Alike.{Spells}
 use Rattle.layout.proofs.Slotted.{SlotOf, free, directory, named, removed, target, slot-of}

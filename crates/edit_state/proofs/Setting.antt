@@ -15,7 +15,7 @@ use Rattle.text.specs.Utf8.{Bytes}
 use Rattle.path.specs.Path.{names}
 use Rattle.path.proofs.Laws.{and_both}
 use Rattle.model.specs.Tree.{Path, Open, open_of}
-use Rattle.model.specs.Prog.{umask, seek, go, opens, move_by, seek_num, apply}
+use Rattle.model.specs.Prog.{umask, seek, go, move_by, seek_num, apply}
 use Rattle.model.specs.Calls.States.{state_of, edited}
 use Rattle.layout.specs.Rows.{name_total, rows}
 use Rattle.layout.specs.Slots.{total}

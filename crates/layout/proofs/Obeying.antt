@@ -12,7 +12,7 @@ use lib.ListN.{length, drop, get_or}
 use Rattle.text.specs.Utf8.{Bytes}
 use Rattle.path.specs.Path.{names, body, same}
 use Rattle.path.proofs.Laws.{and_left, and_right}
-use Rattle.model.specs.Tree.{File, file, Open, file_of}
+use Rattle.model.specs.Tree.{File, Open, file_of}
 use Rattle.model.specs.Rules.{path_ok, meta_ok, bytes_ok, FileOk, NodeOk, Obeys}
 use Rattle.model.proofs.Space.Steps.{Parents}
 use Rattle.model.proofs.Sound.Worlds.{OpenOk}

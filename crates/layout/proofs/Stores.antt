@@ -3,12 +3,10 @@
 -- Assumes nothing.
 use mathlib.Core.List.{List}
 use mathlib.Core.Path.{◌≡◌, sym, ap, ◌∙◌}
-use Prim.Native.Nat.{ℕ}
 use Rattle.model.specs.Calls.States.{State}
 use Rattle.model.specs.Calls.Performing.{Result, result_number, perform}
 use Rattle.model.specs.Buffers.{outputs_after}
 use Rattle.model.specs.Rules.{Obeys}
-use Rattle.model.specs.Passable.{Passable}
 use Rattle.model.specs.Fuller.{Fuller}
 use Rattle.model.proofs.Alike.States.{fuller-alike}
 use Rattle.model.proofs.Demand.Calls.{joined, fuller, call-alike}
@@ -17,7 +15,7 @@ use Rattle.model.proofs.Demand.Joining.{shaped}
 use Rattle.model.proofs.Sound.Reached.{perform-obeys}
 use Rattle.layout.specs.Store.{Store, core}
 use Rattle.layout.specs.Lawful.{Passes}
-use Rattle.layout.specs.Answers.{Lent, call_of, read_back, Carried}
+use Rattle.layout.specs.Answers.{Lent, call_of, read_back}
 use Rattle.layout.specs.Runs.{Left, Both, Runs, start, next}
 use Rattle.layout.proofs.Obeying.{lawful-obeys}
 use Rattle.layout.proofs.Spelled.Passed.{every-passes}

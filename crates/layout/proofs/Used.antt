@@ -14,7 +14,7 @@ use Rattle.model.specs.Tree.{Path, Node, keep_if, name_length, target_length, na
 use Rattle.model.specs.Calls.States.{bytes_used, entries_used}
 use Rattle.model.proofs.Demand.Spacing.{last_name_lem}
 use Rattle.layout.specs.Fields.{len_of}
-use Rattle.layout.specs.Rows.{Row, name_total, rows, path_by, path_of, tree_from}
+use Rattle.layout.specs.Rows.{Row, name_total, path_by, path_of, tree_from}
 use Rattle.layout.specs.Slots.{total}
 use Rattle.layout.specs.Store.{Store, count, live, rows_of, bytes_at, kind_at, node_at, files_from, state}
 use Rattle.layout.specs.Lawful.{walk_ok, rows_ok, uses, slot_ok, Lawful}

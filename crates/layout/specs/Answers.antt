@@ -4,7 +4,7 @@ use Rattle.std.specs.Prelude.{◌≡◌, ℕ, length}
 use Rattle.text.specs.Utf8.{Bytes}
 use Rattle.model.specs.Refusals.{bad_store}
 use Rattle.model.specs.Calls.States.{State}
-use Rattle.model.specs.Calls.Calling.{Op, Work, Call}
+use Rattle.model.specs.Calls.Calling.{Op, Call}
 use Rattle.model.specs.Calls.Performing.{result_number, perform}
 use Rattle.model.specs.Alike.{Alike}
 use Rattle.model.specs.Buffers.{Outputs, outputs_after, cleared}

@@ -5,7 +5,7 @@ use Rattle.std.proofs.Math.Option.{Option, none, some}
 use Rattle.text.specs.Utf8.{Bytes}
 use Rattle.path.specs.Path.{Name}
 use Rattle.model.specs.Refusals.{no_entries, no_bytes}
-use Rattle.model.specs.Tree.{Path, Meta, File, Node, dir, file, link, Files, Open, look, file_of, open_of, links_in}
+use Rattle.model.specs.Tree.{Path, Meta, File, Node, dir, file, link, Open, look, file_of, open_of, links_in}
 use Rattle.model.specs.Prog.{World, Stat, Position, Ask, kind?, stat?, bytes?, target?, list?, bare?, open?, held?, here?, mask?, answer, on_some, listing, apply, Prog, ret, stop, ask, edit}
 use Rattle.model.specs.Operations.{is_some}
 use Rattle.model.specs.Calls.{State, Call, entries_used, bytes_used, is_named, given_to, screen, program, world_of, Result, accepted, refusal, perform}

@@ -4,7 +4,6 @@ use mathlib.Core.Path.{sym, ap, ◌∙◌}
 use Prim.Native.Nat.{ℕ}
 use lib.ListN.{take, get_or}
 use Rattle.ask_entry.proofs.Opened.{here-told}
-use borrow.Author.Rules.{rules}
 use Rattle.ask_entry.proofs.current.Goals as goal
 
 pub returns : goal.returns

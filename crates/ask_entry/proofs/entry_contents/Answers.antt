@@ -5,7 +5,6 @@ use lib.ListN.{get_or}
 use Rattle.layout.specs.Slots.{contents}
 use Rattle.ask_entry.proofs.Places.{stored-room}
 use Rattle.ask_entry.proofs.Stats.{slot-by, spot-contents}
-use borrow.Author.Rules.{rules}
 use Rattle.ask_entry.proofs.entry_contents.Goals as goal
 
 pub slot_bytes-requires : goal.slot_bytes-requires

@@ -4,7 +4,6 @@ use mathlib.Core.Path.{sym, ap, ◌∙◌}
 use Prim.Native.Nat.{ℕ}
 use lib.ListN.{get_or}
 use Rattle.ask_entry.proofs.Stats.{slot-by, spot-kind}
-use borrow.Author.Rules.{rules}
 use Rattle.ask_entry.proofs.entry_kind.Goals as goal
 
 pub returns : goal.returns

@@ -4,7 +4,6 @@ use mathlib.Core.Path.{sym, ◌∙◌}
 use Rattle.layout.specs.Store.{lent}
 use Rattle.ask_entry.specs.Reads.{stat_from, stat_at}
 use Rattle.ask_entry.proofs.Stats.{slot-by, spot-stat}
-use borrow.Author.Rules.{rules}
 use Rattle.ask_entry.proofs.entry_stat.Goals as goal
 
 pub returns : goal.returns

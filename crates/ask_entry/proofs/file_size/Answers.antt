@@ -5,7 +5,6 @@ use Prim.Native.Nat.{ℕ}
 use native.Mathlib.Omega.{arith}
 use borrow.Author.Tests.{eq-eqb, ne_eqb}
 use Rattle.layout.specs.Fields.{len_of, kind_of}
-use borrow.Author.Rules.{rules}
 use Rattle.ask_entry.proofs.file_size.Goals as goal
 
 pub returns-then-kind_of-eq2 : goal.returns-then-kind_of-eq2

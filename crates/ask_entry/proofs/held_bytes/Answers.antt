@@ -6,7 +6,6 @@ use lib.ListN.{get_or}
 use Rattle.layout.specs.Slots.{contents}
 use Rattle.ask_entry.proofs.Places.{stored-room}
 use Rattle.ask_entry.proofs.Opened.{word_of, held_bytes, held-closed}
-use borrow.Author.Rules.{rules}
 use Rattle.ask_entry.proofs.held_bytes.Goals as goal
 
 pub returns-then-h-eq0 : goal.returns-then-h-eq0

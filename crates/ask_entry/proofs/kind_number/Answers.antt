@@ -7,7 +7,6 @@ use borrow.Author.Tests.{ne_eqb}
 use Rattle.model.specs.Prog.{a_dir, aFile, a_link}
 use Rattle.layout.specs.Fields.{kind_of}
 use Rattle.ask_entry.specs.Reads.{kind_by}
-use borrow.Author.Rules.{rules}
 use Rattle.ask_entry.proofs.kind_number.Goals as goal
 
 pub returns-then-k-eq1 : goal.returns-then-k-eq1

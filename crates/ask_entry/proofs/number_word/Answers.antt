@@ -5,7 +5,6 @@ use Prim.Native.Nat.{ℕ, ◌+◌, ◌*◌}
 use native.Mathlib.Omega.{arith}
 use lib.ListN.{get_or}
 use borrow.Author.Tests.{lt-ltb, le-ltb}
-use borrow.Author.Rules.{rules}
 use Rattle.ask_entry.proofs.number_word.Goals as goal
 
 pub returns-then-n-lt-FILE_NUMBERS : goal.returns-then-n-lt-FILE_NUMBERS

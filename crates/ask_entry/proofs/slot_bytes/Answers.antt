@@ -8,7 +8,6 @@ use native.Mathlib.Omega.{arith}
 use Rattle.layout.specs.Slots.{total, contents}
 use Rattle.slots.proofs.Contents.{length-contents}
 use Rattle.ask_entry.proofs.Places.{total_from, to_end, bytes-place}
-use borrow.Author.Rules.{rules}
 use Rattle.ask_entry.proofs.slot_bytes.Goals.{After-sum_to}
 use Rattle.ask_entry.proofs.slot_bytes.Goals as goal
 

@@ -1,13 +1,9 @@
 -- `find::block_end` meets its contract: the records passed are deeper than record i. Assumes nothing.
-use mathlib.Core.Path.{◌≡◌, refl}
-use Prim.Native.Nat.{◌+◌, ◌-◌, ◌≤◌}
+use mathlib.Core.Path.{refl}
 use native.Mathlib.Numerals.{add-one}
 use native.Mathlib.Omega.{arith}
-use borrow.Author.Rules.{rules}
 use lib.ListN.{get_or}
 use Rattle.layout.specs.Fields.{depth_of}
-use Rattle.ask_find.specs.Spans.{span}
-use Rattle.ask_find.proofs.Reading.{from}
 use Rattle.ask_find.proofs.Spans.{span-end, span_out, span_on}
 use Rattle.ask_find.proofs.block_end.Goals as goal
 

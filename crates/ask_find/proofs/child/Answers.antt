@@ -10,7 +10,6 @@ use Rattle.ask_find.specs.Finds.{find_in}
 use Rattle.ask_find.specs.declared.Place.{Place}
 use Rattle.ask_find.specs.declared.Place.TheVariants.{Found, Missing}
 use Rattle.ask_find.proofs.Children.{Ready, ready, asked_is, next_is, depth_is, child-found, child-hidden, child-missing}
-use borrow.Author.Rules.{rules}
 use Rattle.ask_find.proofs.child.Goals.{After-find_child, After-struct_known-1, Start}
 use Rattle.ask_find.proofs.child.Goals as goal
 

@@ -2,10 +2,8 @@
 use mathlib.Core.Path.{◌≡◌, sym, ◌∙◌}
 use Prim.Native.Nat.{◌+◌}
 use native.Mathlib.Omega.{arith}
-use borrow.Author.Rules.{rules}
 use lib.ListN.{get_or}
 use Rattle.layout.specs.Fields.{depth_of}
-use Rattle.ask_find.specs.Finds.{scan}
 use Rattle.ask_find.proofs.Scan.{Start, scan-start}
 use Rattle.ask_find.proofs.find_child.Goals.{After-key}
 use Rattle.ask_find.proofs.find_child.Goals as goal

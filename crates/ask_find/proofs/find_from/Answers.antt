@@ -3,12 +3,10 @@ use mathlib.Core.Path.{◌≡◌, refl, ◌∙◌, sym, ap}
 use Prim.Native.Nat.{ℕ, suc, ◌+◌, ◌-◌, ◌≤◌}
 use native.Mathlib.Numerals.{add-one}
 use native.Mathlib.Omega.{arith}
-use borrow.Author.Rules.{rules}
 use lib.ListN.{length, take, drop, get_or}
 use Rattle.layout.specs.Fields.{nlen_of}
 use Rattle.layout.specs.Rows.{name_total}
 use Rattle.name_order.specs.Order.{order_of}
-use Rattle.ask_find.specs.Finds.{scan}
 use Rattle.ask_find.proofs.Reading.{from}
 use Rattle.ask_find.proofs.Scan.{scan-room, scan-end, scan_out, scan-deeper, scan-less, scan_same, scan_more}
 use Rattle.ask_find.proofs.find_from.Goals.{After-compare, After-nlen_of}

@@ -1,16 +1,12 @@
 -- `find::pass` meets its contract: whatever the name is that begins with the key, the scan from the record reached gives the
 -- answer. Assumes nothing.
 use mathlib.Core.Path.{◌≡◌, refl, ◌∙◌, ap}
-use Prim.Native.Nat.{ℕ, suc, ◌+◌, ◌-◌, ◌≤◌, ◌<◌}
+use Prim.Native.Nat.{suc, ◌+◌, ◌≤◌}
 use native.Mathlib.Numerals.{add-one}
 use native.Mathlib.Omega.{arith}
-use borrow.Author.Rules.{rules}
 use lib.ListN.{length, get_or}
-use Rattle.text.specs.Utf8.{Bytes}
 use Rattle.layout.specs.Fields.{depth_of, nlen_of}
 use Rattle.layout.specs.Rows.{name_total}
-use Rattle.name_order.specs.Order.{number}
-use Rattle.ask_find.specs.Finds.{scan}
 use Rattle.ask_find.proofs.Reading.{from}
 use Rattle.ask_find.proofs.Scan.{scan-room, scan-passed}
 use Rattle.ask_find.proofs.pass.Goals.{After-nlen_of-o}

@@ -1,7 +1,6 @@
 -- `find::starts_less` meets its contract. Assumes nothing.
 use mathlib.Core.Bool.{false≢true}
 use native.Mathlib.Omega.{arith}
-use borrow.Author.Rules.{rules}
 use borrow.Author.Tests.{ltb-true}
 use Rattle.ask_find.proofs.starts_less.Goals as goal
 

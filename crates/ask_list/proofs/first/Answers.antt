@@ -14,7 +14,6 @@ use lib.Seq.{take-length}
 use Rattle.ask_list.proofs.Bare.{next-depth}
 use Rattle.ask_list.proofs.Steps.{listed-end, listed-out}
 use Rattle.ask_list.proofs.Spotted.{listing-spot, spot-depth, leads_at}
-use borrow.Author.Rules.{rules}
 use Rattle.ask_list.proofs.first.Goals.{Start}
 use Rattle.ask_list.proofs.first.Goals as goal
 

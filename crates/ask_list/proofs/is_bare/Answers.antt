@@ -12,7 +12,6 @@ use Rattle.layout.specs.Fields.{depth_of}
 use Rattle.layout.specs.Store.{state}
 use Rattle.ask_find.proofs.Children.{Ready, ready}
 use Rattle.ask_list.proofs.Bare.{bare-end, bare-next}
-use borrow.Author.Rules.{rules}
 use Rattle.ask_list.proofs.is_bare.Goals.{Start}
 use Rattle.ask_list.proofs.is_bare.Goals as goal
 

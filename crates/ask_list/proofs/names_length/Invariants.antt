@@ -1,18 +1,13 @@
 -- `names_length` meets its contract: the bytes of the names passed and of those behind are all. Assumes nothing.
-use mathlib.Core.List.{List}
-use mathlib.Core.Path.{◌≡◌, ap}
-use Prim.Native.Nat.{ℕ, ◌+◌, ◌-◌, ◌*◌, ◌≤◌}
-use native.Mathlib.Omega.{arith}
+use mathlib.Core.Path.{◌≡◌}
+use Prim.Native.Nat.{◌+◌, ◌-◌, ◌*◌, ◌≤◌}
 use lib.ListN.{get_or}
-use Rattle.layout.specs.Fields.{depth_of, nlen_of}
+use Rattle.layout.specs.Fields.{depth_of}
 use Rattle.layout.specs.Store.{Store}
 use Rattle.layout.specs.Store as store
 use Rattle.layout.specs.Lawful.{Lawful}
-use Rattle.ask_find.proofs.Children.{Ready, ready}
 use Rattle.ask_list.specs.Listed.{listed_from}
-use Rattle.ask_list.proofs.Spotted.{listing_by}
-use Rattle.ask_list.proofs.Steps.{listed-out, listed-past, length-on, listed-end, text_length, text-zero}
-use borrow.Author.Rules.{rules}
+use Rattle.ask_list.proofs.Steps.{text_length}
 use Rattle.ask_list.proofs.names_length.Given as goal
 
 abbrev pub invariant-loop-j : goal.invariant-loop-j

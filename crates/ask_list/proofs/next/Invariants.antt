@@ -1,21 +1,14 @@
 -- `next` meets its contract: what is passed lies below the entry. Assumes nothing.
-use mathlib.Core.List.{List}
-use mathlib.Core.Path.{◌≡◌, refl, sym, ap, ◌∙◌, subst}
+use mathlib.Core.Path.{◌≡◌}
 use Prim.Native.Nat.{ℕ, suc, ◌+◌, ◌-◌, ◌*◌, ◌≤◌, ◌<◌}
-use native.Mathlib.Omega.{arith}
-use lib.ListN.{length, take, get_or}
-use Rattle.layout.specs.Fields.{depth_of, nlen_of}
+use lib.ListN.{take, get_or}
+use Rattle.layout.specs.Fields.{depth_of}
 use Rattle.layout.specs.Rows.{name_total}
 use Rattle.layout.specs.Store.{Store}
 use Rattle.layout.specs.Store as store
 use Rattle.layout.specs.Lawful.{Lawful}
 use Rattle.ask_find.specs.Paths.{path_at}
-use Rattle.ask_find.specs.Spots.{At}
-use Rattle.ask_find.proofs.Children.{Ready, ready}
 use Rattle.ask_list.specs.Listed.{listed_from}
-use Rattle.ask_list.proofs.Steps.{listed-end, listed-out, listed-past}
-use Rattle.ask_list.proofs.Spotted.{total_next, keeps_at, leads_at, entry-depth, entry-up}
-use borrow.Author.Rules.{rules}
 use Rattle.ask_list.proofs.next.Given as goal
 
 abbrev pub invariant-loop-j : goal.invariant-loop-j

@@ -1,14 +1,9 @@
 -- `put_behind` meets its contract: the names written and those behind are all. Assumes nothing.
-use mathlib.Core.List.{[], ◌∷◌, ◌++◌}
-use mathlib.Core.Path.{◌≡◌, ◌∙◌, sym, ap}
-use Prim.Native.Nat.{ℕ, ◌+◌, ◌-◌, ◌≤◌}
-use native.Mathlib.Omega.{arith}
-use borrow.Author.Rules.{rules}
-use lib.ListN.{length, take, drop, get_or, length-append}
-use Rattle.layout.specs.Fields.{nlen_of}
+use Prim.Native.Nat.{◌+◌, ◌-◌, ◌≤◌}
+use lib.ListN.{length, drop}
 use Rattle.layout.specs.Rows.{name_total}
-use Rattle.ask_list.proofs.Texts.{Written, written_start, written_same, written-room, written_next, written-end}
-use Rattle.ask_list.proofs.Words.{text_from, name_from, text-end, text_out, text-past, text_on, text-room, name-from}
+use Rattle.ask_list.proofs.Texts.{Written}
+use Rattle.ask_list.proofs.Words.{text_from}
 use Rattle.ask_list.proofs.put_behind.Given as goal
 
 abbrev pub invariant-loop-j : goal.invariant-loop-j

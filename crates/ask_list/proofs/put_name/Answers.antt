@@ -2,10 +2,8 @@
 use mathlib.Core.List.{List}
 use mathlib.Core.Path.{◌∙◌, ap}
 use Prim.Native.Nat.{ℕ, ◌+◌}
-use native.Mathlib.Omega.{arith}
 use lib.ListN.{length, set}
 use Rattle.ask_list.proofs.Texts.{put-zero}
-use borrow.Author.Rules.{rules}
 use Rattle.ask_list.proofs.put_name.Goals as goal
 
 pub returns : goal.returns

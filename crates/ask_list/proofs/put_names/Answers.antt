@@ -6,7 +6,6 @@ use lib.ListN.{take}
 use Rattle.layout.specs.Rows.{name_total}
 use Rattle.ask_find.proofs.Children.{Ready, ready}
 use Rattle.ask_list.proofs.Spotted.{PutReady, put-ready, put-told}
-use borrow.Author.Rules.{rules}
 use Rattle.ask_list.proofs.put_names.Goals.{After-put_behind-arg-1, Start}
 use Rattle.ask_list.proofs.put_names.Goals as goal
 

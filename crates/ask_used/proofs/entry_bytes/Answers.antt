@@ -5,7 +5,6 @@ use native.Mathlib.Omega.{arith}
 use lib.ListN.{get_or}
 use Rattle.layout.specs.Fields.{len_of}
 use Rattle.ask_used.specs.Totals.{head_of}
-use borrow.Author.Rules.{rules}
 use Rattle.ask_used.proofs.entry_bytes.Goals as goal
 
 pub returns : goal.returns

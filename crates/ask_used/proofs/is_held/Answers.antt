@@ -1,12 +1,9 @@
 -- `is_held` meets its contract: the numbers passed do not stand on the slot. Assumes nothing.
-use mathlib.Core.List.{List, []}
 use mathlib.Core.Path.{◌≡◌, refl, sym, ap, ◌∙◌}
-use Prim.Native.Nat.{ℕ, suc, ◌+◌, ◌-◌, ◌≤◌}
+use Prim.Native.Nat.{ℕ, suc, ◌+◌, ◌-◌}
 use native.Mathlib.Numerals.{add-one}
 use native.Mathlib.Omega.{arith}
-use Rattle.layout.specs.Store.{Store, lent}
 use Rattle.layout.specs.Lawful.{held_from}
-use Rattle.ask_used.specs.Answers.{held_in}
 use Rattle.ask_used.proofs.Weighing.{held_none, held-here, held_on}
 use Rattle.ask_used.proofs.is_held.Invariants.{of}
 use Rattle.ask_used.proofs.is_held.Goals as goal

@@ -1,14 +1,11 @@
 -- `link_count` meets its contract: n counts the links among the records passed. Assumes nothing.
 use mathlib.Core.Path.{◌≡◌, ◌∙◌, sym, ap}
-use mathlib.Core.Logic.{⊎_elim}
-use Prim.Native.Nat.{ℕ, ◌+◌, ◌-◌, ◌≤◌}
+use Prim.Native.Nat.{ℕ}
 use native.Mathlib.Nat.{zero-add}
 use native.Mathlib.Omega.{arith}
-use borrow.Author.Rules.{rules}
-use lib.ListN.{take, get_or}
+use lib.ListN.{get_or}
 use Rattle.layout.specs.Fields.{kind_of}
-use Rattle.ask_used.specs.Totals.{head_of, link_total}
-use Rattle.ask_find.proofs.Reading.{from}
+use Rattle.ask_used.specs.Totals.{head_of}
 use Rattle.ask_used.proofs.Totals.{slot_in, links_end, links-fit, links-on, links-off}
 use Rattle.ask_used.proofs.link_count.Goals.{After-kind_of, then-kind_of-eq3, else-kind_of-eq3}
 use Rattle.ask_used.proofs.link_count.Goals as goal
@@ -41,7 +38,7 @@ loop-j-preserved c =
     let e = kind-at (goal.at.loop-j-preserved c).After-kind_of in (
       omega arith,
       elim c.if-kind_of-eq3.branch [
-        then-kind_of-eq3 w ↦ omega (arith, w.n-is, l.invariant.1, links-on a.records.now a.count p a.heads.now l.j c.loop-j-test.true (sym e ∙ w.if-kind_of-eq3.true))
+        | then-kind_of-eq3 w ↦ omega (arith, w.n-is, l.invariant.1, links-on a.records.now a.count p a.heads.now l.j c.loop-j-test.true (sym e ∙ w.if-kind_of-eq3.true))
         | else-kind_of-eq3 w ↦ omega (arith, w.n-is, l.invariant.1, links-off a.records.now a.count p a.heads.now l.j c.loop-j-test.true (λ z. w.if-kind_of-eq3.false (e ∙ z)))
       ],
     )

@@ -1,12 +1,7 @@
 -- `none_open` meets its contract: the numbers passed are closed. Assumes nothing.
-use mathlib.Core.Bool.{Bool, true, false, false≢true}
-use mathlib.Core.Path.{◌≡◌, refl}
+use mathlib.Core.Path.{◌≡◌}
 use Prim.Native.Nat.{ℕ, ◌+◌, ◌*◌, ◌-◌, ◌≤◌, ◌<◌}
-use native.Mathlib.Omega.{arith}
-use lib.Dec.{ltb}
 use lib.ListN.{get_or}
-use borrow.Author.Tests.{ltb-true, ltb-false}
-use mathlib.Core.List.{List}
 use Rattle.ask_used.proofs.none_open.Given as goal
 
 abbrev pub invariant-loop-j : goal.invariant-loop-j

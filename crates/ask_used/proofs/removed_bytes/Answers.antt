@@ -3,7 +3,6 @@ use mathlib.Core.Path.{◌∙◌, refl}
 use native.Mathlib.Omega.{arith}
 use Rattle.layout.proofs.Zeros.{zeros-read}
 use Rattle.ask_used.proofs.Marked.{counted-alone}
-use borrow.Author.Rules.{rules}
 use Rattle.ask_used.proofs.removed_bytes.Goals as goal
 
 pub mark_records-requires : goal.mark_records-requires

@@ -1,11 +1,7 @@
 -- `tree_bytes` meets its contract: s has the bytes of the entries passed. Assumes nothing.
-use mathlib.Core.Path.{◌≡◌}
-use Prim.Native.Nat.{◌+◌, ◌-◌, ◌≤◌}
 use native.Mathlib.Nat.{zero-add}
 use native.Mathlib.Omega.{arith}
-use lib.ListN.{take}
-use Rattle.ask_find.proofs.Reading.{from}
-use Rattle.ask_used.proofs.Totals.{sizes, sizes-fit, sizes-end, Pass, pass}
+use Rattle.ask_used.proofs.Totals.{sizes-fit, sizes-end, Pass, pass}
 use Rattle.ask_used.proofs.tree_bytes.Goals.{After-entry_total-e}
 use Rattle.ask_used.proofs.tree_bytes.Goals as goal
 

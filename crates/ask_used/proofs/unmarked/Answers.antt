@@ -1,6 +1,6 @@
 -- `unmarked` meets its contract: after i slots the sum is that of the first i. Assumes nothing.
 use mathlib.Core.Path.{◌≡◌, ◌∙◌, refl, ap}
-use Prim.Native.Nat.{ℕ, ◌+◌, ◌-◌, ◌*◌, ◌≤◌, zero-le}
+use Prim.Native.Nat.{ℕ, ◌+◌, zero-le}
 use native.Mathlib.Omega.{arith}
 use lib.ListN.{length, get_or}
 use Rattle.layout.specs.Fields.{len_of}

@@ -1,11 +1,8 @@
 -- `unmarked` meets its contract: after i slots the sum is that of the first i. Assumes nothing.
-use mathlib.Core.Path.{◌≡◌, ◌∙◌, refl, ap}
-use Prim.Native.Nat.{ℕ, ◌+◌, ◌-◌, ◌*◌, ◌≤◌, zero-le}
-use native.Mathlib.Omega.{arith}
+use mathlib.Core.Path.{◌≡◌}
+use Prim.Native.Nat.{◌-◌, ◌*◌, ◌≤◌}
 use lib.ListN.{length, get_or}
-use Rattle.layout.specs.Fields.{len_of}
 use Rattle.ask_used.specs.Unnamed.{alone_from}
-use Rattle.ask_used.proofs.Sums.{alone-marked, alone-free, alone-step, alone-add}
 use Rattle.ask_used.proofs.unmarked.Given as goal
 
 abbrev pub invariant-loop-i : goal.invariant-loop-i

@@ -1,7 +1,6 @@
 -- `weigh` meets its contract: the record and the slot of the entry say what it takes up. Assumes nothing.
 use native.Mathlib.Omega.{arith}
 use Rattle.ask_used.proofs.Weighing.{Ready, ready, weight-told}
-use borrow.Author.Rules.{rules}
 use Rattle.ask_used.proofs.weigh.Goals.{Start}
 use Rattle.ask_used.proofs.weigh.Goals as goal
 

@@ -1,9 +1,9 @@
 -- `store::close_gap` meets its contract. Assumes nothing.
 use mathlib.Core.Path.{◌≡◌, ◌∙◌, ap, refl}
-use Prim.Native.Nat.{◌+◌, ◌-◌, ◌≤◌}
+use Prim.Native.Nat.{◌+◌, ◌-◌}
 use native.Mathlib.Nat.{le_refl, sub_self}
 use native.Mathlib.Omega.{arith}
-use lib.ListN.{length, length-set}
+use lib.ListN.{length-set}
 use Rattle.blocks.specs.Moved.{moved}
 use Rattle.blocks.proofs.Laws.{moved_none, moved_same, close-turn}
 use Rattle.blocks.proofs.close_gap.Goals as goal

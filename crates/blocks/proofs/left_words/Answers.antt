@@ -2,10 +2,8 @@
 use mathlib.Core.Path.{sym}
 use Prim.Native.Nat.{◌-◌}
 use native.Mathlib.Omega.{arith}
-use borrow.Author.Rules.{rules}
 use lib.Seq.{length-take-le}
 use Rattle.blocks.proofs.Turns.{left_kept}
-use borrow.Author.Rules.{rules}
 use Rattle.blocks.proofs.left_words.Goals as goal
 
 pub slice_bounds-copy_words-end-3 : goal.slice_bounds-copy_words-end-3

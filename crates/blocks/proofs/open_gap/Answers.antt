@@ -1,9 +1,9 @@
 -- `store::open_gap` meets its contract. Assumes nothing.
 use mathlib.Core.Path.{◌≡◌, ◌∙◌, ap, refl}
-use Prim.Native.Nat.{ℕ, ◌+◌, ◌-◌, ◌≤◌}
+use Prim.Native.Nat.{ℕ, ◌+◌, ◌-◌}
 use native.Mathlib.Nat.{le_refl, sub_self}
 use native.Mathlib.Omega.{arith}
-use lib.ListN.{length, length-set}
+use lib.ListN.{length-set}
 use Rattle.blocks.specs.Moved.{moved}
 use Rattle.blocks.proofs.Laws.{moved_none, moved_same, open_turn}
 use Rattle.blocks.proofs.open_gap.Goals as goal

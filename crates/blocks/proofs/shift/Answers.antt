@@ -3,7 +3,6 @@ use mathlib.Core.Path.{◌≡◌, ◌∙◌, ap₂}
 use Prim.Native.Nat.{ℕ, ◌+◌, ◌-◌}
 use native.Mathlib.Omega.{arith}
 use Rattle.blocks.specs.Moved.{moved}
-use borrow.Author.Rules.{rules}
 use Rattle.blocks.proofs.shift.Goals as goal
 
 pub returns-then-from-to : goal.returns-then-from-to

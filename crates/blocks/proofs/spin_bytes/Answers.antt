@@ -1,9 +1,7 @@
 -- `blocks::spin_bytes` meets its contract: each turn leaves a shorter part to turn. Assumes nothing.
-use mathlib.Core.Path.{◌≡◌, refl, ◌∙◌}
-use Prim.Native.Nat.{◌-◌}
+use mathlib.Core.Path.{refl, ◌∙◌}
 use native.Mathlib.Omega.{arith}
-use lib.ListN.{length}
-use Rattle.blocks.proofs.Turns.{Spinning, spin-start, spin_left, spin_right}
+use Rattle.blocks.proofs.Turns.{spin-start, spin_left, spin_right}
 use Rattle.blocks.proofs.spin_bytes.Goals as goal
 
 pub loop-buf-init : goal.loop-buf-init

@@ -1,9 +1,8 @@
 -- `blocks::spin_words` meets its contract: each turn leaves a shorter part to turn. Assumes nothing.
-use mathlib.Core.Path.{◌≡◌, refl, ◌∙◌}
+use mathlib.Core.Path.{◌≡◌}
 use Prim.Native.Nat.{◌-◌}
-use native.Mathlib.Omega.{arith}
 use lib.ListN.{length}
-use Rattle.blocks.proofs.Turns.{Spinning, spin-start, spin_left, spin_right}
+use Rattle.blocks.proofs.Turns.{Spinning}
 use Rattle.blocks.proofs.spin_words.Given as goal
 
 abbrev pub invariant-loop-buf : goal.invariant-loop-buf

@@ -1,9 +1,9 @@
 -- `blocks::swap_bytes` meets its contract: after k turns the first k of both are exchanged. Assumes nothing.
-use mathlib.Core.Path.{◌≡◌, refl}
-use Prim.Native.Nat.{◌-◌, ◌≤◌, zero-le}
+use mathlib.Core.Path.{refl}
+use Prim.Native.Nat.{zero-le}
 use native.Mathlib.Omega.{arith}
-use lib.ListN.{length, length-set}
-use Rattle.blocks.proofs.Turns.{Swapping, swap-start, swap_step, swap-end}
+use lib.ListN.{length-set}
+use Rattle.blocks.proofs.Turns.{swap-start, swap_step, swap-end}
 use Rattle.blocks.proofs.swap_bytes.Goals as goal
 
 pub loop-k-init : goal.loop-k-init

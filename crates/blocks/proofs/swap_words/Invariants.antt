@@ -1,9 +1,8 @@
 -- `blocks::swap_words` meets its contract: after k turns the first k of both are exchanged. Assumes nothing.
-use mathlib.Core.Path.{◌≡◌, refl}
-use Prim.Native.Nat.{◌-◌, ◌≤◌, zero-le}
-use native.Mathlib.Omega.{arith}
-use lib.ListN.{length, length-set}
-use Rattle.blocks.proofs.Turns.{Swapping, swap-start, swap_step, swap-end}
+use mathlib.Core.Path.{◌≡◌}
+use Prim.Native.Nat.{◌-◌, ◌≤◌}
+use lib.ListN.{length}
+use Rattle.blocks.proofs.Turns.{Swapping}
 use Rattle.blocks.proofs.swap_words.Given as goal
 
 abbrev pub invariant-loop-k : goal.invariant-loop-k

@@ -7,7 +7,6 @@ use lib.ListN.{set}
 use mir.Syntax.{w64}
 use mir.ValLaws.{to_z-of_z}
 use Rattle.edit_slot.specs.Times.{set_if}
-use borrow.Author.Rules.{rules}
 use Rattle.edit_slot.proofs.put_if.Goals as goal
 
 pub returns-then-ok : goal.returns-then-ok

@@ -4,7 +4,6 @@ use mathlib.Core.Path.{ap}
 use Prim.Native.Nat.{ℕ}
 use lib.ListN.{get_or, set}
 use Rattle.edit_slot.proofs.Metadata.{word-stored}
-use borrow.Author.Rules.{rules}
 use Rattle.edit_slot.proofs.put_mode.Goals as goal
 
 pub returns : goal.returns

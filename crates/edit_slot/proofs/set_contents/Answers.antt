@@ -11,7 +11,6 @@ use mir.Syntax.{w64}
 use mir.ValLaws.{to_z-of_z}
 use Rattle.edit_slot.specs.Times.{modified_set}
 use Rattle.edit_slot.proofs.Putting.{asked, contents-changes}
-use borrow.Author.Rules.{rules}
 use Rattle.edit_slot.proofs.set_contents.Goals as goal
 
 pub write-requires : goal.write-requires

@@ -3,7 +3,6 @@
 use Rattle.layout.specs.Store.{lent, bytes_at}
 use Rattle.slots.specs.Put.{fitted}
 use Rattle.edit_slot.proofs.Putting.{asked, length-changes}
-use borrow.Author.Rules.{rules}
 use Rattle.edit_slot.proofs.set_length.Goals as goal
 
 pub resize-requires : goal.resize-requires

@@ -8,7 +8,6 @@ use Rattle.layout.specs.Store.{lent}
 use Rattle.edit_slot.specs.Changes.{Changes}
 use Rattle.edit_slot.proofs.Altering.{slotted}
 use Rattle.edit_slot.proofs.Metadata.{mode-changes}
-use borrow.Author.Rules.{rules}
 use Rattle.edit_slot.proofs.set_mode.Goals as goal
 
 pub returns : goal.returns

@@ -13,7 +13,6 @@ use mir.Syntax.{w64}
 use mir.ValLaws.{to_z-of_z}
 use Rattle.edit_slot.specs.Times.{set_if, some_set}
 use Rattle.edit_slot.proofs.Metadata.{some_changes}
-use borrow.Author.Rules.{rules}
 use Rattle.edit_slot.proofs.set_some_times.Goals as goal
 
 pub returns : goal.returns

@@ -11,7 +11,6 @@ use mir.Syntax.{w64}
 use mir.ValLaws.{to_z-of_z}
 use Rattle.slots.specs.Times.{times_set}
 use Rattle.edit_slot.proofs.Metadata.{times-changes}
-use borrow.Author.Rules.{rules}
 use Rattle.edit_slot.proofs.set_times.Goals as goal
 
 pub returns : goal.returns

@@ -4,7 +4,6 @@ use native.Mathlib.Omega.{arith}
 use lib.ListN.{length-set}
 use Rattle.edit_state.proofs.Cells.{cell-fits}
 use Rattle.edit_state.proofs.Opening.{opens-spells}
-use borrow.Author.Rules.{rules}
 use Rattle.edit_state.proofs.open_number.Goals as goal
 
 pub bounds-words-n-2 : goal.bounds-words-n-2

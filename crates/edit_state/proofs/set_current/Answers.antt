@@ -2,7 +2,6 @@
 use native.Mathlib.Omega.{arith}
 use Rattle.edit_state.proofs.Cells.{cell-fits}
 use Rattle.edit_state.proofs.Setting.{go-spells}
-use borrow.Author.Rules.{rules}
 use Rattle.edit_state.proofs.set_current.Goals as goal
 
 pub copy_into-requires : goal.copy_into-requires

@@ -1,6 +1,5 @@
 -- `set_position` meets its contract. Assumes nothing.
 use Rattle.edit_state.proofs.Setting.{seek-spells}
-use borrow.Author.Rules.{rules}
 use Rattle.edit_state.proofs.set_position.Goals as goal
 
 pub returns : goal.returns

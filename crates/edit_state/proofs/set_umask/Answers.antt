@@ -1,7 +1,6 @@
 -- `set_umask` meets its contract. Assumes nothing.
 use native.Mathlib.Omega.{arith}
 use Rattle.edit_state.proofs.Setting.{umask-spells}
-use borrow.Author.Rules.{rules}
 use Rattle.edit_state.proofs.set_umask.Goals as goal
 
 pub returns : goal.returns

@@ -4,7 +4,6 @@ use mathlib.Core.Path.{sym, ◌∙◌, subst}
 use native.Mathlib.Omega.{arith}
 use lib.Dec.{T}
 use lib.ListN.{length}
-use borrow.Author.Rules.{rules}
 use borrow.Author.Tests.{not-true, not-false}
 use Rattle.lawful.specs.Parts.{Kept}
 use Rattle.lawful_entries.specs.Fits.{kind_in}

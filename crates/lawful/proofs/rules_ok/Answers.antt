@@ -4,7 +4,6 @@ use mathlib.Core.Path.{sym}
 use native.Mathlib.Omega.{arith}
 use lib.ListN.{length, get_or}
 use lib.Seq.{length-take-le}
-use borrow.Author.Rules.{rules}
 use borrow.Author.Tests.{not-true, not-false}
 use Rattle.lawful_limits.specs.Limits.{Limits, Lengths}
 use Rattle.lawful.proofs.Whole.{pass-limits, pass-lengths, pass-parts}

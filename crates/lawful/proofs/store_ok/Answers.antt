@@ -2,7 +2,6 @@
 -- Assumes nothing.
 use mathlib.Core.Bool.{Bool, true, false}
 use native.Mathlib.Omega.{arith}
-use borrow.Author.Rules.{rules}
 use Rattle.layout.proofs.Sizes.{sized-cut}
 use Rattle.layout.specs.Lawful.{Sized, Keeps, Passes}
 use Rattle.layout.specs.Store.{Store, lent, core}

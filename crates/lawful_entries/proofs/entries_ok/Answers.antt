@@ -2,12 +2,10 @@
 -- Assumes nothing.
 use mathlib.Core.Path.{sym, ◌∙◌}
 use lib.ListN.{length}
-use borrow.Author.Rules.{rules}
 use borrow.Author.Tests.{not-true, not-false}
 use Rattle.layout.specs.Rows.{rows}
 use Rattle.lawful_entries.specs.Fits.{kind_in}
 use Rattle.lawful_entries.proofs.Joining.{rows-unclean, rows-clean}
-use borrow.Author.Rules.{rules}
 use Rattle.lawful_entries.proofs.entries_ok.Goals as goal
 
 pub returns-then-not-names_clean : goal.returns-then-not-names_clean

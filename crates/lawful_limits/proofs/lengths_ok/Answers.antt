@@ -2,7 +2,6 @@
 -- Assumes nothing.
 use native.Mathlib.Omega.{arith}
 use lib.ListN.{get_or}
-use borrow.Author.Rules.{rules}
 use Rattle.lawful_limits.specs.Limits.{Lengths}
 use Rattle.lawful_limits.proofs.Settling.{settle-le}
 use Rattle.lawful_limits.proofs.lengths_ok.Goals as goal

@@ -3,7 +3,6 @@
 use Prim.Native.Nat.{◌+◌}
 use native.Mathlib.Omega.{arith}
 use lib.ListN.{get_or}
-use borrow.Author.Rules.{rules}
 use Rattle.lawful_limits.specs.Limits.{Limits}
 use Rattle.lawful_limits.proofs.Settling.{settle-le}
 use Rattle.lawful_limits.proofs.limits_ok.Goals as goal

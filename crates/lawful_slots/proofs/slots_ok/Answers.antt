@@ -6,7 +6,6 @@ use Prim.Native.Nat.{ℕ, ◌+◌}
 use native.Mathlib.Omega.{arith}
 use lib.Dec.{eqb}
 use lib.ListN.{length, length-replicate}
-use borrow.Author.Rules.{rules}
 use borrow.Author.Tests.{not-true, not-false}
 use Rattle.lawful_slots.specs.Uses.{NamedBy, OpenedBy}
 use Rattle.layout.proofs.Zeros.{zeros-read}

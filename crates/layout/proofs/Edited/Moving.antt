@@ -12,11 +12,11 @@ use lib.Seq.{take-length}
 use borrow.Author.Tests.{lt-ltb}
 use Rattle.path.specs.Path.{Name}
 use Rattle.path.proofs.Laws.{and_left, and_right, and_both}
-use Rattle.model.specs.Tree.{Path, Node, Entries, precedes, look, behind, graft}
+use Rattle.model.specs.Tree.{Path, Node, Entries, look, behind, graft}
 use Rattle.model.specs.Rules.{name_ok}
 use Rattle.model.proofs.Entries.{of_true, or, both_look, graft_in, graft_out}
 use Rattle.layout.specs.Rows.{Row, path_by, tree_from}
-use Rattle.layout.specs.Lawful.{follows, entry_ok, walk_ok, root_ok, rows_ok}
+use Rattle.layout.specs.Lawful.{entry_ok, walk_ok, root_ok, rows_ok}
 use Rattle.layout.specs.Parts.{path_after, dir_after, Behind, Between, Deeper}
 use Rattle.layout.proofs.Edited.Parted.{tree_both, walk_both, SameStart, tree-start, walk_start}
 use Rattle.layout.proofs.Edited.Inserting.{stand-below, start-below, root_is, same_start, new-path, none_left}

@@ -14,7 +14,7 @@ use Rattle.model.specs.Tree.{Path, File, Node, dir, file, link, Open, look, file
 use Rattle.model.specs.Prog.{World, Position, on_some, answer}
 use Rattle.model.specs.Calls.States.{State, state_of, is_named, is_held}
 use Rattle.model.specs.Rules.{Once, new_path}
-use Rattle.model.specs.Shaped.{HasFile, Shaped}
+use Rattle.model.specs.Shaped.{Shaped}
 use Rattle.model.specs.Fuller.{shown_node, shown, position_of, StandsAt, StandsRemoved, same_id, share}
 use Rattle.model.proofs.Demand.Contents.{or_left, or_right, named_at, at_named, by_held}
 use Rattle.model.proofs.Entries.{clash, some_inj, of_true, is_true, is_false}

@@ -14,7 +14,7 @@ use Rattle.model.specs.Rules.{Obeys}
 use Rattle.model.proofs.Demand.Contents.{weigh, weigh-le}
 use Rattle.layout.specs.Rows.{name_total}
 use Rattle.layout.specs.Slots.{total}
-use Rattle.layout.specs.Store.{most, room, slots_for, live, meta_at, bytes_at, kind_at, files_from, state}
+use Rattle.layout.specs.Store.{slots_for, live, meta_at, bytes_at, kind_at, files_from, state}
 use Rattle.layout.specs.Lawful.{slot_ok, Exact, Lawful}
 use Rattle.layout.proofs.Tables.{file_at, file-found, file_there, files-once}
 use Rattle.layout.proofs.Used.{bytes_counted}

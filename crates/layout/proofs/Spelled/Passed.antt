@@ -1,9 +1,9 @@
 -- Every state that obeys the rules is that of slices that refusal 1 lets pass: the store that spells it is exactly as long as its limits
 -- ask, so nothing is cut off it.
 -- Assumes nothing.
-use mathlib.Core.List.{List, [], ◌∷◌}
-use mathlib.Core.Path.{◌≡◌, refl, sym, ap, ◌∙◌, subst}
-use Prim.Native.Nat.{ℕ, zero, suc, ◌*◌, ◌≤◌}
+use mathlib.Core.List.{List}
+use mathlib.Core.Path.{◌≡◌, sym, ap, ◌∙◌, subst}
+use Prim.Native.Nat.{ℕ, ◌*◌}
 use native.Mathlib.Omega.{arith}
 use lib.ListN.{length, take}
 use lib.Seq.{take-length}
@@ -12,7 +12,7 @@ use Rattle.model.specs.Rules.{Obeys}
 use Rattle.model.specs.Alike.{Alike}
 use Rattle.layout.specs.Store.{Store, most, room, extent, slots_for, state, core}
 use Rattle.layout.specs.Numbers.{word_count, paths_bytes}
-use Rattle.layout.specs.Lawful.{Lawful, Sized, Long, Passes}
+use Rattle.layout.specs.Lawful.{Lawful, Sized, Passes}
 use Rattle.layout.proofs.Spelled.Lawing.{spell-lawful}
 use Rattle.layout.proofs.Spelled.Ordered.{sorted, sorted-obeys, sorted-ascends, alike-sorted}
 use Rattle.layout.proofs.Spelled.Stored.{spell, heads-length, most_back}

@@ -2,7 +2,7 @@
 -- and a number stand once in a world, and names and numbers of alike states lead to files in both. So edits of alike states leave alike
 -- states, edit by edit, and it does not matter whether files that nothing names or holds are dropped after each or after the last.
 -- Assumes nothing.
-use mathlib.Core.Bool.{true, false, false≢true}
+use mathlib.Core.Bool.{true, false≢true}
 use mathlib.Core.List.{List, [], ◌∷◌}
 use mathlib.Core.Logic.{◌⊎◌, inl, inr}
 use mathlib.Core.Option.{Option, none, some}

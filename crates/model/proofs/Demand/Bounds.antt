@@ -1,18 +1,16 @@
 -- A call answers and leaves the same, and is left out by demand 3 for the same, whatever bound its lookups have on last links, from
 -- the number of links in the tree on: every lookup is, and no call makes a link before it looks up.
 -- Assumes nothing.
-use mathlib.Core.Bool.{Bool, true, false, ◌&&◌, ◌||◌, not}
+use mathlib.Core.Bool.{Bool, true, false, ◌||◌, not}
 use mathlib.Core.List.{[], ◌∷◌, ◌++◌}
-use mathlib.Core.Option.{Option, none, some}
 use mathlib.Core.Path.{◌≡◌, refl, sym, ap, ap₂, ◌∙◌}
 use Prim.Native.Nat.{ℕ, ◌≤◌}
 use native.Mathlib.Omega.{arith}
-use lib.ListN.{length}
 use Rattle.text.specs.Utf8.{Bytes}
 use Rattle.path.specs.Path.{is_absolute}
-use Rattle.model.specs.Tree.{Path, Time, links_in, same_path, behind}
-use Rattle.model.specs.Prog.{World, Kind, bytes?, open?, answer, take, give, edits, apply, Prog, ret, stop, ask, edit, asks, ◌>>=◌, ◌>>◌, need, is_nil, Out, done, refused, run}
-use Rattle.model.specs.Lookup.{find, Where, lookup, text_or}
+use Rattle.model.specs.Tree.{Path, Time, links_in, same_path}
+use Rattle.model.specs.Prog.{World, bytes?, open?, answer, take, give, edits, apply, Prog, ret, stop, ask, edit, ◌>>=◌, ◌>>◌, is_nil, Out, done, refused, run}
+use Rattle.model.specs.Lookup.{Where, lookup, text_or}
 use Rattle.model.specs.Operations as O
 use Rattle.model.specs.Operations.{Reply, Parted}
 use Rattle.model.specs.Calls as Calls
@@ -22,8 +20,8 @@ use Rattle.model.proofs.Lookups.LinkCount.{links-cut}
 use Rattle.model.proofs.Lookups.Ends.{later, excepts-bind, lookup-bound}
 use Rattle.model.proofs.Lookups.Loops.{bounds}
 use Rattle.model.proofs.Lookups.Pure.{pure-need}
-use Rattle.model.proofs.Running.{then, run_bind, Pure, pure-bind, After, pure-after}
-use Rattle.model.proofs.Refusals.Tests.{pure-ask, pure-lookup, pure-absolute, pure-must, pure-parted, pure-is_directory, pure-only_file, pure-leads, pure-directory, pure-last_entry, pure-open_walk, pure-source_at, pure-replaces}
+use Rattle.model.proofs.Running.{then, run_bind, Pure, After, pure-after}
+use Rattle.model.proofs.Refusals.Tests.{pure-ask, pure-lookup, pure-absolute, pure-parted, pure-only_file, pure-leads, pure-directory, pure-last_entry, pure-open_walk, pure-source_at, pure-replaces}
 
 -- what asks nothing behind a program adds no exception
 silent-end : {A B : Type 0} (p : Prog A) (f : A → Prog B) (w v : World) → ((a : A) (x y : World) → excepts (f a) x y ≡ false) → excepts (p >>= f) w v ≡ excepts p w v

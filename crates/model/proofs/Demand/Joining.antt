@@ -1,20 +1,20 @@
 -- Two states as demand 3 has them are two worlds as the two runs keep them: a pair of files is one at a path of both trees, or a
 -- removed one under a number, and since a file has one name, pairs are one to one.
 -- Assumes nothing.
-use mathlib.Core.Bool.{false, false≢true, ◌||◌}
+use mathlib.Core.Bool.{false, false≢true}
 use mathlib.Core.List.{[]}
 use mathlib.Core.Logic.{◌⊎◌, inl, inr}
 use mathlib.Core.Option.{Option, none, some}
 use mathlib.Core.Path.{◌≡◌, refl, sym, ap, ◌∙◌}
 use Prim.Native.Nat.{ℕ}
 use native.Mathlib.Omega.{arith}
-use lib.Dec.{T, eqb}
+use lib.Dec.{eqb}
 use borrow.Author.Tests.{eqb-true, eq-eqb}
 use Rattle.text.specs.Utf8.{Bytes}
-use Rattle.model.specs.Tree.{Path, Meta, File, Node, dir, file, link, Entries, Files, Open, look, file_of, open_of}
+use Rattle.model.specs.Tree.{Path, Meta, File, Node, dir, file, link, Entries, Open, look, file_of, open_of}
 use Rattle.model.specs.Prog.{Position, answer, on_some}
-use Rattle.model.specs.Calls.{State, is_named, is_held, world_of}
-use Rattle.model.specs.Rules.{Obeys, Once, new_path, new_file, new_number}
+use Rattle.model.specs.Calls.{State, is_named, world_of}
+use Rattle.model.specs.Rules.{Obeys}
 use Rattle.model.specs.Shaped.{HasFile, Shaped}
 use Rattle.model.specs.Fuller.{Shown, shown_dir, shown_file, shown_link, shown_node, shown, position_of, StandsAt, StandsRemoved, same_id, share, HasEverything, SameOpen}
 use Rattle.model.proofs.Demand.Contents.{at_named}

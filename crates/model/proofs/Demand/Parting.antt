@@ -12,9 +12,9 @@ use lib.Dec.{T, eqb, T_not, not_T}
 use borrow.Author.Tests.{eq-eqb, ne_eqb, eqb-true}
 use Rattle.path.proofs.Laws.{and_left, and_right, and_both}
 use Rattle.model.specs.Tree.{Path, File, Node, file, Files, Open, look, open_of}
-use Rattle.model.specs.Prog.{World, open?, on_some}
+use Rattle.model.specs.Prog.{World, on_some}
 use Rattle.model.specs.Calls.{State, is_named, is_held, world_of}
-use Rattle.model.specs.Fuller.{shown_file, shown_node, shown, HasEverything, position_of, StandsAt, StandsRemoved, same_id, share, SameOpen, Fuller}
+use Rattle.model.specs.Fuller.{shown_file, shown_node, shown, HasEverything, position_of, StandsAt, StandsRemoved, same_id, share, SameOpen}
 use Rattle.model.proofs.Demand.Asking.{number-asked}
 use Rattle.model.proofs.Demand.Contents.{weigh, weigh-le, weigh-split, or_elim, or_left, or_right, named_at, at_named, held_by, by_held, only_second, only_at_lem, at_only}
 use Rattle.model.proofs.Entries.{clash, some_inj, is_true, is_false, of_true}

@@ -8,7 +8,7 @@ use mathlib.Core.Path.{◌≡◌, refl, sym, ap, ◌∙◌}
 use Rattle.text.specs.Utf8.{Bytes}
 use Rattle.path.specs.Path.{Name}
 use Rattle.model.specs.Tree.{Path, Meta, Node, dir, file, link, Entries, look}
-use Rattle.model.specs.Prog.{World, Kind, a_dir, on_some, node_kind, answer, Prog, ◌>>=◌, done, run}
+use Rattle.model.specs.Prog.{World, Kind, a_dir, on_some, node_kind, answer, ◌>>=◌, done, run}
 use Rattle.model.specs.Lookup.{found, missing, last_link, Met, ends, mid_link, arrived, onward, until_symlink}
 use Rattle.model.proofs.Lookups.Pure.{no_answer}
 

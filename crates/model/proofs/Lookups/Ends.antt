@@ -2,24 +2,20 @@
 -- Assumes nothing.
 use mathlib.Core.Bool.{Bool, true, false, ◌&&◌, ◌||◌, not, false≢true}
 use mathlib.Core.List.{List, [], ◌∷◌, ◌++◌}
-use mathlib.Core.Logic.{◌⊎◌, inl, inr}
+use mathlib.Core.Logic.{inl}
 use mathlib.Core.Option.{Option, none, some}
-use mathlib.Core.Path.{◌≡◌, refl, sym, ap, ap₂, ◌∙◌, subst}
+use mathlib.Core.Path.{◌≡◌, refl, sym, ap, ◌∙◌}
 use Prim.Native.Nat.{ℕ, zero, suc, ◌+◌, ◌≤◌}
 use native.Mathlib.Omega.{arith}
 use lib.ListN.{length}
-use Rattle.text.specs.Utf8.{Bytes}
-use Rattle.path.specs.Path.{Name, path_fits, is_absolute, names}
-use Rattle.model.specs.Tree.{Path, Time, Meta, Node, dir, file, link, look, links_in, same_path, behind}
-use Rattle.model.specs.Prog.{World, Kind, a_dir, aFile, a_link, kind?, target?, node_kind, on_some, answer, take, apply, Prog, ret, stop, ask, edit, edits, ◌>>=◌, ◌>>◌, need, Out, done, refused, run}
-use Rattle.model.specs.Lookup.{End, found, missing, last_link, Met, ends, mid_link, arrived, onward, until_symlink, text_or, behind_link, Walked, ended, no_follow, most_links, Where, reached, following, lookup}
-use Rattle.model.specs.Operations as O
+use Rattle.path.specs.Path.{Name, path_fits}
+use Rattle.model.specs.Tree.{Path, Node, look, links_in}
+use Rattle.model.specs.Prog.{World, Kind, a_dir, aFile, a_link, kind?, node_kind, on_some, answer, Prog, ret, stop, ask, edit, ◌>>=◌, ◌>>◌, need, Out, done, refused, run}
+use Rattle.model.specs.Lookup.{End, found, missing, last_link, Met, ends, mid_link, arrived, onward, until_symlink, behind_link, Walked, ended, no_follow, most_links, Where, reached, following, lookup}
 use Rattle.model.specs.Operations.{is_some}
-use Rattle.model.specs.Calls as Calls
-use Rattle.model.specs.Calls.{State, Call, program, world_of}
 use Rattle.model.specs.Fuller.{misses, excepts_ask, excepts}
-use Rattle.model.proofs.Running.{Pure, pure-bind, onto, tells_then, Tells, tells-run, tells-done}
-use Rattle.model.proofs.Lookups.Pure.{pure-need, pure-until, pure-behind, pure-no_follow, pure-following}
+use Rattle.model.proofs.Running.{Pure, onto, tells_then, Tells, tells-done}
+use Rattle.model.proofs.Lookups.Pure.{pure-until, pure-no_follow}
 use Rattle.model.proofs.Lookups.Walking.{Link, StandsEnd, path_of, until-tells, goes, Walks, no_follow-tells, walk-stands}
 use Rattle.model.proofs.Lookups.Loops.{bounds}
 

@@ -13,7 +13,7 @@ use Rattle.text.specs.Utf8.{Bytes}
 use Rattle.path.specs.Path.{Name, path_fits}
 use Rattle.model.specs.Tree.{Path, Meta, link, look, links_in}
 use Rattle.model.specs.Prog.{World, a_dir, Prog, ◌>>=◌, Out, done, run}
-use Rattle.model.specs.Lookup.{End, found, missing, last_link, Met, ends, mid_link, until_symlink, behind_link, Walked, ended, no_follow, most_links, Where, reached, following, lookup}
+use Rattle.model.specs.Lookup.{End, found, missing, last_link, Met, ends, mid_link, until_symlink, behind_link, ended, no_follow, most_links, Where, reached, following, lookup}
 use Rattle.model.proofs.Running.{then, run_bind}
 use Rattle.model.proofs.Entries.{clash}
 use Rattle.model.proofs.Lookups.Pure.{bind-run, next, along, no_follow_is, reach, look_from, following_is}

@@ -5,13 +5,13 @@ use mathlib.Core.List.Memᴰ
 use mathlib.Core.List.{List, [], ◌∷◌, ◌++◌, append-nil, append_assoc, Memᴰ}
 use mathlib.Core.Logic.{inl, inr}
 use mathlib.Core.Option.{Option, none, some}
-use mathlib.Core.Path.{◌≡◌, refl, sym, ap, subst, ◌∙◌}
+use mathlib.Core.Path.{◌≡◌, refl, sym, ap, ◌∙◌}
 use Prim.Native.Nat.{ℕ, zero, suc, ◌+◌, ◌*◌}
 use native.Mathlib.Omega.{arith}
 use Rattle.path.specs.Path.{Name}
 use Rattle.model.specs.Tree.{Path, Meta, Node, dir, file, link, look}
 use Rattle.model.specs.Prog.{World, Kind, a_dir, aFile, a_link, kind?, node_kind, on_some, answer, Prog, ◌>>=◌, done, run}
-use Rattle.model.specs.Lookup.{End, found, missing, Met, ends, mid_link, onward, until_symlink, Walked, ended, no_follow, most_links, Where, reached, following, lookup}
+use Rattle.model.specs.Lookup.{End, found, missing, ends, onward, until_symlink, Walked, ended, no_follow, most_links, Where, reached, following, lookup}
 use Rattle.model.proofs.Running.{tells-done, tells_then}
 use Rattle.model.proofs.Lookups.Walking.{at_end, Link, until-tells, no_follow_then, Tracks, walk-stands, following-tells}
 

@@ -6,9 +6,9 @@ use mathlib.Core.Option.{Option, none, some}
 use Prim.Native.Nat.{ℕ, zero, suc}
 use lib.Dec.{leb}
 use Rattle.text.specs.Utf8.{Bytes}
-use Rattle.path.specs.Path.{Name, is_absolute, absolute, path_fits}
+use Rattle.path.specs.Path.{Name, absolute, path_fits}
 use Rattle.model.specs.Tree.{Path, Time, Meta}
-use Rattle.model.specs.Prog.{Kind, a_dir, aFile, a_link, Ask, kind?, bytes?, asks, make, Prog, ret, ◌>>=◌, ◌>>◌, need}
+use Rattle.model.specs.Prog.{Kind, a_dir, aFile, a_link, Ask, kind?, bytes?, asks, make, ret, ◌>>=◌, ◌>>◌, need}
 use Rattle.model.specs.Lookup.{End, found, missing, last_link, lookup}
 use Rattle.model.specs.Operations as O
 use Rattle.model.proofs.Running.{Pure, pure-bind}

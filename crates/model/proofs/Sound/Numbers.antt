@@ -4,7 +4,7 @@
 use mathlib.Core.Bool.{◌&&◌}
 use mathlib.Core.List.{[], ◌∷◌, ◌++◌}
 use mathlib.Core.Option.{Option, none, some}
-use mathlib.Core.Path.{◌≡◌, refl, ◌∙◌, subst}
+use mathlib.Core.Path.{◌≡◌, refl, subst}
 use Prim.Native.Nat.{ℕ, zero, suc, ◌+◌, ◌-◌, ◌≤◌, ◌<◌, ◌^◌}
 use native.Mathlib.Nat.{mod-lt, min-le_right, lt_of_le_of_lt, sub-le}
 use native.Mathlib.Omega.{arith}

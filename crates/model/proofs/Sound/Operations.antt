@@ -1,7 +1,7 @@
 -- Each operation's edits are allowed where they are made: the lookups and tests before them say so. Rename has its own page.
 -- Assumes nothing.
 use mathlib.Core.Bool.{Bool, true, false, not}
-use mathlib.Core.List.{List, [], ◌∷◌, ◌++◌}
+use mathlib.Core.List.{List, []}
 use mathlib.Core.Option.{Option, none, some}
 use mathlib.Core.Path.{◌≡◌, refl, sym, ap, ◌∙◌, subst}
 use Prim.Native.Nat.{ℕ, ◌≤◌}
@@ -20,8 +20,8 @@ use Rattle.model.proofs.Entries.{clash}
 use Rattle.model.proofs.Sound.Worlds.{FilesOk, Sound, Vacant}
 use Rattle.model.proofs.Sound.Lookups.{dir-shows, Stands, no_follow-says}
 use Rattle.model.proofs.Sound.Files.{set_each}
-use Rattle.model.proofs.Sound.Parts.{Fine, Quiet, fresh_ok, dir-ok, link-ok, vacant, only_file-quiet, only_dir-quiet, not_file-quiet, not_dir-says, need-quiet, parent_stands-says, on_path-fine, found-says, leads-says, Entered, last_entry-says, new_mode-says, open_walk-says, made}
-use Rattle.model.proofs.Sound.Meets.{Meets, gives, stops, asked, edited, Says, then, bind, asks-says, need-says, must-says}
+use Rattle.model.proofs.Sound.Parts.{Fine, Quiet, fresh_ok, dir-ok, link-ok, vacant, only_file-quiet, only_dir-quiet, not_file-quiet, not_dir-says, need-quiet, parent_stands-says, on_path-fine, found-says, leads-says, last_entry-says, new_mode-says, open_walk-says, made}
+use Rattle.model.proofs.Sound.Meets.{Meets, gives, stops, asked, edited, Says, then, bind, asks-says, must-says}
 
 -- every file's length fits 64 bits
 abbrev pub Small : Files → Type 0

@@ -5,17 +5,17 @@ use mathlib.Core.Bool.{Bool, true, false}
 use mathlib.Core.List.{[], ◌∷◌, ◌++◌, append-nil, drop_last}
 use mathlib.Core.Option.{Option, none, some}
 use mathlib.Core.Path.{◌≡◌, refl, sym, ap, ◌∙◌, subst}
-use Prim.Native.Nat.{ℕ, suc, ◌+◌, ◌<◌}
+use Prim.Native.Nat.{ℕ, ◌<◌}
 use native.Mathlib.Omega.{arith}
 use lib.Dec.{T, lit<}
 use lib.ListN.{length, length-append}
 use lib.Seq.{append_snoc}
 use Rattle.text.specs.Utf8.{Bytes}
 use Rattle.path.specs.Path.{Name, absolute, path_fits, last_name}
-use Rattle.model.specs.Tree.{Path, Time, Meta, Node, dir, Entries, look, put}
-use Rattle.model.specs.Prog.{World, Kind, a_dir, aFile, a_link, kind?, bare?, here?, mask?, answer, make, node_kind, on_some, apply, Prog, ret, ◌>>=◌, ◌>>◌, need}
-use Rattle.model.specs.Lookup.{find, Where, lookup}
-use Rattle.model.specs.Operations.{Reply, fresh, fresh_dir, fresh_link, to_absolute, on_path, on_paths, must, There, leads, Parted, parted, is_directory, directory, last_entry, only_file, only_dir, is_dir, make_if, make_missing, open_walk, parent_stands, new_mode, not_file, not_dir, same_sort, emptied, replaces}
+use Rattle.model.specs.Tree.{Path, Time, Meta, Node, dir, Entries, put}
+use Rattle.model.specs.Prog.{World, Kind, a_dir, aFile, a_link, kind?, bare?, here?, answer, make, node_kind, on_some, apply, Prog, ◌>>=◌, ◌>>◌, need}
+use Rattle.model.specs.Lookup.{Where, lookup}
+use Rattle.model.specs.Operations.{Reply, fresh, fresh_dir, fresh_link, to_absolute, on_path, on_paths, leads, Parted, parted, is_directory, directory, last_entry, only_file, only_dir, is_dir, make_if, make_missing, open_walk, parent_stands, new_mode, not_file, not_dir, same_sort, emptied, replaces}
 use Rattle.model.specs.Rules.{names_ok, path_ok, target_ok, meta_ok}
 use Rattle.model.specs.Passable.{Unsigned32, Signed64}
 use Rattle.model.proofs.Entries.{clash, put-here, put_past}

@@ -1,6 +1,6 @@
 -- The calls of a job, made from the numbers and bytes that C passes, and what is tested before a call does anything.
 -- Assumes nothing.
-use Rattle.std.specs.Prelude.{Bool, true, false, ◌&&◌, not, cond, List, [], ◌∷◌, ℕ, leb}
+use Rattle.std.specs.Prelude.{Bool, true, false, ◌&&◌, not, List, [], ◌∷◌, ℕ, leb}
 use Rattle.text.specs.Utf8.{Bytes, text}
 use Rattle.path.specs.Path.{lengths_ok}
 use Rattle.model.specs.Refusals.{bad_text, text_too_long, bad_number, short_buffer}

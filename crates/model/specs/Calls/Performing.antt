@@ -1,9 +1,9 @@
 -- What a call answers and leaves: tests before it (screen), its program, and 15 and 16 of the state that it would leave (settle).
 -- Assumes nothing.
-use Rattle.std.specs.Prelude.{Bool, true, false, cond, List, [], ◌∷◌, ℕ, zero, suc, ◌/◌, ◌%◌, leb, eqb}
+use Rattle.std.specs.Prelude.{Bool, true, false, List, [], ◌∷◌, ℕ, zero, suc, ◌/◌, ◌%◌, leb, eqb}
 use Rattle.std.proofs.Math.Option.{Option, none, some}
 use Rattle.model.specs.Refusals.{no_entries, no_bytes}
-use Rattle.model.specs.Tree.{Time, links_in}
+use Rattle.model.specs.Tree.{links_in}
 use Rattle.model.specs.Prog.{Prog, Out, done, refused, run}
 use Rattle.model.specs.Operations.{Reply, Opening, on_path, on_paths, on_given, on_raw, canonicalize_at, set_current_dir_at, umask_to, create_dir_at, open_at, read_at, write_at, copy_at, hard_link_at, link_at, remove_at, a_file_out, a_dir_out, a_tree_out, rename_at, metadata_at, symlink_metadata_at, read_link_at, set_permissions_at, set_times_at, list_at, close_on, read_on, seek_on, set_length_on, set_mode_on, set_times_on, metadata_on}
 use Rattle.model.specs.Calls.States.{State, entries_used, bytes_used, world_of, state_of}

@@ -1,10 +1,8 @@
 -- `order::compare_bytes` meets its contract. Assumes nothing.
-use mathlib.Core.Path.{◌≡◌, ◌∙◌, sym, refl}
-use Prim.Native.Nat.{◌-◌, ◌≤◌, zero-le}
+use mathlib.Core.Path.{◌∙◌, sym, refl}
+use Prim.Native.Nat.{zero-le}
 use native.Mathlib.Numerals.{add-one}
 use native.Mathlib.Omega.{arith}
-use lib.ListN.{length, drop}
-use Rattle.name_order.specs.Order.{order_of}
 use Rattle.name_order.proofs.Orders.{order-end, order-short, order-long, order-less, order_more, order_next}
 use Rattle.name_order.proofs.compare_bytes.Goals as goal
 

@@ -1,9 +1,6 @@
 -- `order::compare_long` meets its contract: the names are the same before i. Assumes nothing.
-use mathlib.Core.Path.{sym, ◌∙◌}
-use Prim.Native.Nat.{◌+◌, ◌-◌, ◌<◌}
-use native.Mathlib.Omega.{arith}
-use borrow.Author.Rules.{rules}
-use Rattle.name_order.proofs.Numbers.{Level, level-start, level-back, run-less, run_more, run-same, by_end}
+use Prim.Native.Nat.{◌-◌, ◌<◌}
+use Rattle.name_order.proofs.Numbers.{Level}
 use Rattle.name_order.proofs.compare_long.Given as goal
 
 abbrev pub invariant-loop-i : goal.invariant-loop-i

@@ -2,7 +2,6 @@
 use mathlib.Core.Path.{sym, ◌∙◌}
 use Prim.Native.Nat.{◌+◌, ◌-◌}
 use native.Mathlib.Omega.{arith}
-use borrow.Author.Rules.{rules}
 use Rattle.name_order.proofs.Numbers.{Level, level-start, level-back, run-less, run_more, run-same, by_end}
 use Rattle.name_order.proofs.compare_short.Goals.{Else-y-x}
 use Rattle.name_order.proofs.compare_short.Goals as goal

@@ -1,7 +1,6 @@
 -- `order::half` meets its contract. Assumes nothing.
 use native.Mathlib.Omega.{arith}
 use Rattle.name_order.proofs.Numbers.{four}
-use borrow.Author.Rules.{rules}
 use Rattle.name_order.proofs.half.Goals as goal
 
 pub returns : goal.returns

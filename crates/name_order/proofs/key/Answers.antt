@@ -1,9 +1,8 @@
 -- `order::key` meets its contract: after i bytes the number is that of the first i. Assumes nothing.
-use Prim.Native.Nat.{ℕ, ◌-◌, ◌≤◌, ◌<◌}
+use Prim.Native.Nat.{ℕ, ◌<◌}
 use mathlib.Core.Path.{◌≡◌, sym, ap, ◌∙◌}
 use native.Mathlib.Omega.{arith}
 use native.Mathlib.Numerals.{add-one}
-use borrow.Author.Rules.{rules}
 use Rattle.name_order.specs.Order.{number}
 use Rattle.name_order.proofs.Keys.{number_none, number_next, number_small}
 use Rattle.name_order.proofs.key.Goals.{In-loop-i}

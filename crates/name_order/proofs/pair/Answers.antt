@@ -1,6 +1,5 @@
 -- `order::pair` meets its contract. Assumes nothing.
 use native.Mathlib.Omega.{arith}
-use borrow.Author.Rules.{rules}
 use Rattle.name_order.proofs.Numbers.{two}
 use Rattle.name_order.proofs.pair.Goals as goal
 

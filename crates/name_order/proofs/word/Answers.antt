@@ -1,7 +1,6 @@
 -- `order::word` meets its contract. Assumes nothing.
 use native.Mathlib.Omega.{arith}
 use Rattle.name_order.proofs.Numbers.{eight}
-use borrow.Author.Rules.{rules}
 use Rattle.name_order.proofs.word.Goals as goal
 
 pub returns : goal.returns

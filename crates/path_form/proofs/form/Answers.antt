@@ -10,7 +10,6 @@ use Rattle.path.specs.declared.answer.Plain.TheVariants.{From}
 use Rattle.path.proofs.Cutting.{part_length}
 use Rattle.path.proofs.Following.{plain-told, plain_body, plain-length, plain-stored}
 use Rattle.path.proofs.Forming.{forms-long, forms_one}
-use borrow.Author.Rules.{rules}
 use Rattle.path_form.proofs.form.Goals.{In-From}
 use Rattle.path_form.proofs.form.Goals as goal
 

@@ -1,7 +1,6 @@
 -- `path_form::form_mixed` meets its contract.
 use native.Mathlib.Omega.{arith}
 use Rattle.path.proofs.Forming.{forms-long, forms_one}
-use borrow.Author.Rules.{rules}
 use Rattle.path_form.proofs.form_mixed.Goals as goal
 
 pub returns-then-kept-gt1024 : goal.returns-then-kept-gt1024

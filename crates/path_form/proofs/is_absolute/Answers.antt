@@ -1,6 +1,5 @@
 -- `path_form::is_absolute` meets its contract.
 use Rattle.path.proofs.Texts.{absolute-empty, absolute_first}
-use borrow.Author.Rules.{rules}
 use Rattle.path_form.proofs.is_absolute.Goals as goal
 
 pub returns-then-s-eq0 : goal.returns-then-s-eq0

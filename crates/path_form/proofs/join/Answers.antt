@@ -5,7 +5,6 @@ use native.Mathlib.Omega.{arith}
 use Rattle.path.specs.Backward.{sifted}
 use Rattle.path.specs.Path.{body}
 use Rattle.path.proofs.Forming.{forms_same, joined, both_long, forms_both}
-use borrow.Author.Rules.{rules}
 use Rattle.path_form.proofs.join.Goals as goal
 
 pub returns-then-first-gt1024 : goal.returns-then-first-gt1024

@@ -1,6 +1,5 @@
 -- `path_form::normalize_path` meets its contract.
 use mathlib.Core.Path.{sym}
-use borrow.Author.Rules.{rules}
 use Rattle.path.proofs.Forming.{forms_same, normal-kept}
 use Rattle.path_form.proofs.normalize_path.Goals as goal
 

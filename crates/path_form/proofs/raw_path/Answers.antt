@@ -1,6 +1,5 @@
 -- `path_form::raw_path` meets its contract: all names are kept.
 use mathlib.Core.Path.{sym}
-use borrow.Author.Rules.{rules}
 use Rattle.path.proofs.Forming.{forms_same, raw-kept}
 use Rattle.path_form.proofs.raw_path.Goals as goal
 

@@ -2,7 +2,6 @@
 use mathlib.Core.Path.{sym, ap, ◌∙◌}
 use Rattle.path.specs.Path.{body}
 use Rattle.path.proofs.Forming.{forms_same, from_root, from_dir}
-use borrow.Author.Rules.{rules}
 use Rattle.path_form.proofs.to_absolute_path.Goals as goal
 
 pub returns-then-is_absolute : goal.returns-then-is_absolute

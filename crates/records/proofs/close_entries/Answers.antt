@@ -3,7 +3,6 @@ use Prim.Native.Nat.{◌+◌}
 use native.Mathlib.Omega.{arith}
 use Rattle.records.proofs.Entries.{total_up, total-sum}
 use Rattle.records.proofs.Closes.{closed_all}
-use borrow.Author.Rules.{rules}
 use Rattle.records.proofs.close_entries.Goals as goal
 
 pub overflow_add-u : goal.overflow_add-u

@@ -1,10 +1,10 @@
 -- `records::lift_words` meets its contract: the words from a to j are lifted. Assumes nothing.
 use mathlib.Core.Path.{◌≡◌, ◌∙◌, ap, refl}
-use Prim.Native.Nat.{ℕ, ◌-◌, ◌≤◌}
+use Prim.Native.Nat.{ℕ}
 use native.Mathlib.Nat.{le_refl}
 use native.Mathlib.Numerals.{add-one}
 use native.Mathlib.Omega.{arith}
-use lib.ListN.{length, get_or, length-set}
+use lib.ListN.{get_or, length-set}
 use Rattle.records.specs.Blocks.{changed, lift, Liftable}
 use Rattle.records.proofs.Lifts.{change_none, change-read, change-turn}
 use Rattle.records.proofs.lift_words.Goals.{After-slice_known-1}

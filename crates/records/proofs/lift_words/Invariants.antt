@@ -1,12 +1,8 @@
 -- `records::lift_words` meets its contract: the words from a to j are lifted. Assumes nothing.
-use mathlib.Core.Path.{◌≡◌, ◌∙◌, ap, refl}
-use Prim.Native.Nat.{ℕ, ◌-◌, ◌≤◌}
-use native.Mathlib.Nat.{le_refl}
-use native.Mathlib.Numerals.{add-one}
-use native.Mathlib.Omega.{arith}
-use lib.ListN.{length, get_or, length-set}
-use Rattle.records.specs.Blocks.{changed, lift, Liftable}
-use Rattle.records.proofs.Lifts.{change_none, change-read, change-turn}
+use mathlib.Core.Path.{◌≡◌}
+use Prim.Native.Nat.{◌-◌, ◌≤◌}
+use lib.ListN.{length}
+use Rattle.records.specs.Blocks.{changed, lift}
 use Rattle.records.proofs.lift_words.Given as goal
 
 abbrev pub invariant-loop-j : goal.invariant-loop-j

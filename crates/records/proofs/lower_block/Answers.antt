@@ -3,13 +3,6 @@ use mathlib.Core.Path.{◌∙◌}
 use native.Mathlib.Omega.{arith}
 use lib.ListN.{length-set}
 use Rattle.records.proofs.Lowers.{ready, lowered, total_kept, long_kept}
-use borrow.Author.Rules.{rules}
-use Rattle.records.proofs.lower_block.Reads as reads
-use Rattle.records.proofs.lower_block.Lts as lts
-use Rattle.records.proofs.lift_words.Reads as lift-words-reads
-use Rattle.records.proofs.open_entry.Reads as open-entry-reads
-use Rattle.records.proofs.with_slot.Reads as with-slot-reads
-use Rattle.records.proofs.word_below.Reads as word-below-reads
 use Rattle.records.proofs.lower_block.Goals as goal
 
 pub word_below-below-requires : goal.word_below-below-requires

@@ -5,7 +5,6 @@ use lib.ListN.{take}
 use Rattle.layout.specs.Rows.{rows}
 use Rattle.records.specs.Blocks.{changed, lift, raised}
 use Rattle.records.proofs.Swings.{move_down, move_up, names-room, moved_all}
-use borrow.Author.Rules.{rules}
 use Rattle.records.proofs.move_block.Goals as goal
 
 pub swing-requires : goal.swing-requires

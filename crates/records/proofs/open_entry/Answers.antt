@@ -5,7 +5,6 @@ use native.Mathlib.Omega.{arith}
 use lib.ListN.{length-set}
 use Rattle.records.proofs.Entries.{total_up, total-sum}
 use Rattle.records.proofs.Opens.{opened_all}
-use borrow.Author.Rules.{rules}
 use Rattle.records.proofs.open_entry.Goals as goal
 
 pub overflow_add-u : goal.overflow_add-u

@@ -4,7 +4,6 @@ use Prim.Native.Nat.{◌+◌}
 use native.Mathlib.Omega.{arith}
 use Rattle.blocks.specs.Turn.{turned}
 use Rattle.records.proofs.Entries.{total_up, total-sum}
-use borrow.Author.Rules.{rules}
 use Rattle.records.proofs.swing.Goals as goal
 
 pub overflow_add-y : goal.overflow_add-y

@@ -2,8 +2,6 @@
 use mathlib.Core.Path.{sym}
 use native.Mathlib.Omega.{arith}
 use Rattle.setup.proofs.Fits.{bytes_low, bytes_high, bytes-long}
-use Rattle.setup.proofs.bytes_fit.Reads as reads
-use Rattle.setup.proofs.bytes_fit.Lts as lts
 use Rattle.setup.proofs.bytes_fit.Goals as goal
 
 pub returns-then-limit-lt-LEAST_BYTES : goal.returns-then-limit-lt-LEAST_BYTES

@@ -1,10 +1,7 @@
 -- `setup::entries_fit` meets its contract. Assumes nothing.
 use mathlib.Core.Path.{sym}
 use native.Mathlib.Omega.{arith}
-use borrow.Author.Rules.{rules}
 use Rattle.setup.proofs.Fits.{low, high, few_words, few-records, few-heads, few-times, paths-left}
-use Rattle.setup.proofs.entries_fit.Reads as reads
-use Rattle.setup.proofs.entries_fit.Lts as lts
 use Rattle.setup.proofs.entries_fit.Goals as goal
 
 pub returns-then-limit-lt1 : goal.returns-then-limit-lt1

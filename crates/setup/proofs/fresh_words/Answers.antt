@@ -1,11 +1,7 @@
 -- `setup::fresh_words` meets its contract. Assumes nothing.
 use native.Mathlib.Omega.{arith}
 use lib.ListN.{length-set}
-use borrow.Author.Rules.{rules}
 use Rattle.setup.proofs.Fresh.{fresh_from}
-use Rattle.setup.proofs.fresh_words.Reads as reads
-use Rattle.setup.proofs.fresh_words.Lts as lts
-use Rattle.setup.proofs.zero_words.Reads as zero-words-reads
 use Rattle.setup.proofs.fresh_words.Goals as goal
 
 pub bounds-words-1 : goal.bounds-words-1

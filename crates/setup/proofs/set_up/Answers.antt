@@ -3,12 +3,6 @@ use mathlib.Core.Path.{◌∙◌, sym}
 use borrow.Author.Tests.{not-true, not-false}
 use Rattle.setup.proofs.Answers.{says-15, says-16, says-done}
 use Rattle.setup.proofs.Fits.{entry-room}
-use borrow.Author.Rules.{rules}
-use Rattle.setup.proofs.set_up.Reads as reads
-use Rattle.setup.proofs.set_up.Lts as lts
-use Rattle.setup.proofs.bytes_fit.Reads as bytes-fit-reads
-use Rattle.setup.proofs.entries_fit.Reads as entries-fit-reads
-use Rattle.setup.proofs.fresh_words.Reads as fresh-words-reads
 use Rattle.setup.proofs.set_up.Goals as goal
 
 pub returns-then-not-entries_fit : goal.returns-then-not-entries_fit

@@ -1,13 +1,10 @@
 -- `setup::zero_words` meets its contract. Assumes nothing.
-use mathlib.Core.List.{◌++◌}
 use mathlib.Core.Path.{◌≡◌, ◌∙◌, refl, ap}
-use Prim.Native.Nat.{◌-◌, ◌≤◌, zero-le}
+use Prim.Native.Nat.{zero-le}
 use native.Mathlib.Numerals.{add-one}
 use native.Mathlib.Omega.{arith}
-use lib.ListN.{length, length-set, drop, replicate, set}
+use lib.ListN.{length-set, set}
 use Rattle.setup.proofs.Zeros.{fill-turn}
-use Rattle.setup.proofs.zero_words.Reads as reads
-use Rattle.setup.proofs.zero_words.Lts as lts
 use Rattle.setup.proofs.zero_words.Goals as goal
 
 pub loop-i-init : goal.loop-i-init

@@ -1,6 +1,5 @@
 -- `slots::clear` meets its contract: the bytes are cut to none, and then the word is 0. Assumes nothing.
 use Rattle.slots.proofs.Change.{clear-put}
-use borrow.Author.Rules.{rules}
 use Rattle.slots.proofs.clear.Goals as goal
 
 pub returns : goal.returns

@@ -1,10 +1,8 @@
 -- `slots::free_slot` meets its contract: no slot before i is free, so the search goes on from i. Assumes nothing.
-use mathlib.Core.Path.{◌≡◌, ◌∙◌, sym, refl}
-use Prim.Native.Nat.{◌-◌, ◌≤◌, zero-le}
+use mathlib.Core.Path.{◌∙◌, sym, refl}
+use Prim.Native.Nat.{zero-le}
 use native.Mathlib.Numerals.{add-one}
 use native.Mathlib.Omega.{arith}
-use lib.ListN.{length, drop}
-use Rattle.slots.specs.Free.{free_from}
 use Rattle.slots.proofs.Frees.{free_on, free-here, free-end}
 use Rattle.slots.proofs.free_slot.Goals as goal
 

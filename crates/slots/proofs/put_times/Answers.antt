@@ -2,7 +2,6 @@
 -- Assumes nothing.
 use native.Mathlib.Omega.{arith}
 use lib.ListN.{length-set}
-use borrow.Author.Rules.{rules}
 use Rattle.slots.proofs.put_times.Goals as goal
 
 pub bounds-times-i-2 : goal.bounds-times-i-2

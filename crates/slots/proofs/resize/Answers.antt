@@ -3,7 +3,6 @@ use mathlib.Core.Path.{◌∙◌}
 use native.Mathlib.Omega.{arith}
 use Rattle.slots.proofs.Totals.{sums}
 use Rattle.slots.proofs.Change.{cut-put, grow-put}
-use borrow.Author.Rules.{rules}
 use Rattle.slots.proofs.resize.Goals as goal
 
 pub overflow_sub-from : goal.overflow_sub-from

@@ -1,6 +1,6 @@
 -- `slots::sum_to` meets its contract: t is the sum of the first i, which is at most the whole. Assumes nothing.
 use mathlib.Core.Path.{◌≡◌, ◌∙◌, ap, refl}
-use Prim.Native.Nat.{ℕ, suc, ◌-◌, ◌≤◌, zero-le}
+use Prim.Native.Nat.{ℕ, suc, zero-le}
 use native.Mathlib.Numerals.{add-one}
 use native.Mathlib.Omega.{arith}
 use lib.ListN.{take}

@@ -1,11 +1,8 @@
 -- `slots::sum_to` meets its contract: t is the sum of the first i, which is at most the whole. Assumes nothing.
-use mathlib.Core.Path.{◌≡◌, ◌∙◌, ap, refl}
-use Prim.Native.Nat.{ℕ, suc, ◌-◌, ◌≤◌, zero-le}
-use native.Mathlib.Numerals.{add-one}
-use native.Mathlib.Omega.{arith}
+use mathlib.Core.Path.{◌≡◌}
+use Prim.Native.Nat.{◌-◌, ◌≤◌}
 use lib.ListN.{take}
 use Rattle.layout.specs.Slots.{total}
-use Rattle.slots.proofs.Totals.{total-take, take-total}
 use Rattle.slots.proofs.sum_to.Given as goal
 
 abbrev pub invariant-loop-i : goal.invariant-loop-i

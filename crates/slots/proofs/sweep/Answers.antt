@@ -1,10 +1,8 @@
 -- `slots::sweep` meets its contract: the slots from i on are done, and what stands in front of src is untouched. Assumes nothing.
 use mathlib.Core.Path.{◌≡◌, ◌∙◌, refl}
-use Prim.Native.Nat.{◌≤◌}
 use native.Mathlib.Nat.{le_refl}
 use native.Mathlib.Omega.{arith}
-use lib.ListN.{length}
-use Rattle.slots.proofs.Sweeps.{Sweeping, Ready, sweep-start, sweep-pre, sweep_next, sweep-done}
+use Rattle.slots.proofs.Sweeps.{Ready, sweep-start, sweep-pre, sweep_next, sweep-done}
 use Rattle.slots.proofs.sweep.Goals.{After-shared_slice_known-in-loop-i-1}
 use Rattle.slots.proofs.sweep.Goals as goal
 

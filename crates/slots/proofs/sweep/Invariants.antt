@@ -1,10 +1,8 @@
 -- `slots::sweep` meets its contract: the slots from i on are done, and what stands in front of src is untouched. Assumes nothing.
-use mathlib.Core.Path.{◌≡◌, ◌∙◌, refl}
+use mathlib.Core.Path.{◌≡◌}
 use Prim.Native.Nat.{◌≤◌}
-use native.Mathlib.Nat.{le_refl}
-use native.Mathlib.Omega.{arith}
 use lib.ListN.{length}
-use Rattle.slots.proofs.Sweeps.{Sweeping, Ready, sweep-start, sweep-pre, sweep_next, sweep-done}
+use Rattle.slots.proofs.Sweeps.{Sweeping}
 use Rattle.slots.proofs.sweep.Given as goal
 
 abbrev pub invariant-loop-i : goal.invariant-loop-i

@@ -7,7 +7,6 @@ use lib.ListN.{get_or}
 use lib.Seq.{set-get_or}
 use Rattle.blocks.specs.Moved.{moved}
 use Rattle.layout.specs.Fields.{len_of}
-use borrow.Author.Rules.{rules}
 use Rattle.slots.proofs.sweep_step.Goals as goal
 
 pub returns-then-keep-eq0 : goal.returns-then-keep-eq0

@@ -7,7 +7,6 @@ use Rattle.layout.specs.Slots.{contents}
 use Rattle.slots.specs.Put.{fitted}
 use Rattle.slots.proofs.Totals.{sums}
 use Rattle.slots.proofs.Change.{write-put, put-len}
-use borrow.Author.Rules.{rules}
 use Rattle.slots.proofs.write.Goals as goal
 
 pub overflow_sub-at : goal.overflow_sub-at

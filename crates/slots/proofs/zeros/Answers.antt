@@ -1,10 +1,10 @@
 -- `slots::zeros` meets its contract: the bytes from a to j are zeros, and the others as they were. Assumes nothing.
-use mathlib.Core.Path.{◌≡◌, ◌∙◌, refl}
-use Prim.Native.Nat.{◌-◌, ◌≤◌}
+use mathlib.Core.Path.{◌∙◌, refl}
+use Prim.Native.Nat.{◌-◌}
 use native.Mathlib.Nat.{sub_self, le_refl}
 use native.Mathlib.Omega.{arith}
-use lib.ListN.{length, length-set, replicate}
-use lib.Seq.{paste, paste-zero}
+use lib.ListN.{length-set, replicate}
+use lib.Seq.{paste-zero}
 use Rattle.slots.proofs.Filling.{zero_turn, zero-done}
 use Rattle.slots.proofs.zeros.Goals as goal
 

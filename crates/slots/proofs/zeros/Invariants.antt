@@ -1,11 +1,8 @@
 -- `slots::zeros` meets its contract: the bytes from a to j are zeros, and the others as they were. Assumes nothing.
-use mathlib.Core.Path.{◌≡◌, ◌∙◌, refl}
+use mathlib.Core.Path.{◌≡◌}
 use Prim.Native.Nat.{◌-◌, ◌≤◌}
-use native.Mathlib.Nat.{sub_self, le_refl}
-use native.Mathlib.Omega.{arith}
-use lib.ListN.{length, length-set, replicate}
-use lib.Seq.{paste, paste-zero}
-use Rattle.slots.proofs.Filling.{zero_turn, zero-done}
+use lib.ListN.{length, replicate}
+use lib.Seq.{paste}
 use Rattle.slots.proofs.zeros.Given as goal
 
 abbrev pub invariant-loop-j : goal.invariant-loop-j

@@ -1,13 +1,9 @@
 -- `text::all_plain` meets its contract. The loop's invariant: as long as no odd octet was met, none was passed.
 -- The measure is what is left of the text. Assumes nothing.
-use borrow.Author.Rules.{rules}
 use borrow.Author.Tests.{not-true}
-use mathlib.Core.Bool.{false}
 use mathlib.Core.Path.{◌≡◌}
-use Prim.Native.Nat.{◌-◌, ◌≤◌}
 use native.Mathlib.Omega.{arith}
 use lib.ListN.{length}
-use Rattle.text.specs.Looks.{Plain}
 use Rattle.text.proofs.Looking.{plain_more}
 use Rattle.text.proofs.all_plain.Goals as goal
 

@@ -11,7 +11,6 @@ use lib.ListN.{drop}
 use Rattle.text.proofs.Lead.{pick, char-pick}
 use Rattle.text.specs.Utf8.{tail, rows, starts, char_length}
 use Rattle.text.specs.Steps.{second_of}
-use borrow.Author.Rules.{rules}
 use Rattle.text.proofs.char_len.Goals.{After-class_at-lead, Else-lead-eq1, Else-lead-gt8, Else-lead-lt6}
 use Rattle.text.proofs.char_len.Goals as goal
 

@@ -4,7 +4,6 @@ use Prim.Native.Nat.{◌<◌}
 use native.Mathlib.Omega.{arith}
 use lib.ListN.{get_or}
 use Rattle.text.proofs.Lead.{table_at}
-use borrow.Author.Rules.{rules}
 use Rattle.text.proofs.class_at.Goals.{After-shared_slice_known-1}
 use Rattle.text.proofs.class_at.Goals as goal
 

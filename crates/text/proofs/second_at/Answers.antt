@@ -13,7 +13,6 @@ use Rattle.text.proofs.Lead.{second-starts}
 use Rattle.text.specs.Utf8.{Bytes, starts}
 use Rattle.text.specs.Classes.{class_of}
 use Rattle.text.specs.Steps.{second_of}
-use borrow.Author.Rules.{rules}
 use Rattle.text.proofs.second_at.Goals.{After-class_at-class}
 use Rattle.text.proofs.second_at.Goals as goal
 

@@ -1,7 +1,6 @@
 -- `text::text_ok` meets its contract: octets of which none is odd are a text, and the constant is the table, which antt computes
 -- by the rule of the classes. Assumes nothing.
 use mathlib.Core.Path.{refl, sym}
-use borrow.Author.Rules.{rules}
 use Rattle.text.specs.Classes.{leads, classes, place, class_of, tabulate, table}
 use Rattle.text.proofs.Looking.{plain-text}
 use Rattle.text.proofs.text_ok.Goals as goal

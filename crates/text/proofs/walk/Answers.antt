@@ -1,10 +1,9 @@
 -- `text::walk` meets its contract. The loop's invariant: the whole is a text where what is left of it at i is one.
 -- The measure is what is left of the length. Assumes nothing.
 use mathlib.Core.Path.{◌≡◌, refl, sym, ◌∙◌}
-use Prim.Native.Nat.{◌+◌, ◌≤◌, ◌-◌}
+use Prim.Native.Nat.{◌+◌, ◌≤◌}
 use native.Mathlib.Omega.{arith}
 use lib.ListN.{length, drop}
-use borrow.Author.Rules.{rules}
 use Rattle.text.proofs.Turns.{turn, refused, over}
 use Rattle.text.specs.Utf8.{octets, text}
 use Rattle.text.proofs.walk.Goals.{Else-k-eq0}

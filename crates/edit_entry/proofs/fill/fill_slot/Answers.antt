@@ -6,7 +6,6 @@ use lib.IntN.{ℤ}
 use Rattle.slots.specs.Times.{times_set}
 use lib.ListN.{length, length-set}
 use Rattle.edit_entry.proofs.Fills.{may_write, filled}
-use borrow.Author.Rules.{rules}
 use Rattle.edit_entry.proofs.fill.fill_slot.Goals as goal
 
 pub write-requires : goal.write-requires

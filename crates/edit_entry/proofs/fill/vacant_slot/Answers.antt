@@ -1,7 +1,6 @@
 -- `fill::vacant_slot` meets its contract. Assumes nothing.
 use mathlib.Core.Path.{◌∙◌, sym}
 use Rattle.slots.proofs.Frees.{found}
-use borrow.Author.Rules.{rules}
 use Rattle.edit_entry.proofs.fill.vacant_slot.Goals as goal
 
 pub returns-in-At : goal.returns-in-At

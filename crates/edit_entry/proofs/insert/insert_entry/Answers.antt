@@ -4,7 +4,6 @@ use mir.Syntax.{w64}
 use mir.ValLaws.{to_z-of_z}
 use Rattle.edit_entry.proofs.Fills.{same_time}
 use Rattle.edit_entry.proofs.Inserts.{depth_small, name-length, slot_small, may-open, may-fill, inserted-at}
-use borrow.Author.Rules.{rules}
 use Rattle.edit_entry.proofs.insert.insert_entry.Goals as goal
 
 pub vacant_slot-s-requires : goal.vacant_slot-s-requires

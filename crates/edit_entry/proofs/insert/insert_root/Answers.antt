@@ -4,7 +4,6 @@ use mir.Syntax.{w64}
 use mir.ValLaws.{to_z-of_z}
 use Rattle.edit_entry.proofs.Fills.{same_time}
 use Rattle.edit_entry.proofs.Rooting.{rooted}
-use borrow.Author.Rules.{rules}
 use Rattle.edit_entry.proofs.insert.insert_root.Goals as goal
 
 pub returns : goal.returns

@@ -2,7 +2,6 @@
 use mathlib.Core.Path.{refl}
 use native.Mathlib.Omega.{arith}
 use Rattle.edit_entry.proofs.Moves.{low-index, may-rename, may-move-by, moves-by}
-use borrow.Author.Rules.{rules}
 use Rattle.edit_entry.proofs.moving.move_entry.Goals as goal
 
 pub offset_bounds-records-i : goal.offset_bounds-records-i

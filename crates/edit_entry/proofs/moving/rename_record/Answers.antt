@@ -1,7 +1,6 @@
 -- `moving::rename_record` meets its contract. Assumes nothing.
 use lib.ListN.{length, get_or}
 use Rattle.edit_entry.proofs.Renames.{word_by, may-put, renamed}
-use borrow.Author.Rules.{rules}
 use Rattle.edit_entry.proofs.moving.rename_record.Goals as goal
 
 pub open_entry-requires : goal.open_entry-requires

@@ -4,7 +4,6 @@ use mir.Syntax.{w64}
 use mir.ValLaws.{to_z-of_z}
 use Rattle.edit_entry.proofs.Fills.{same_time}
 use Rattle.edit_entry.proofs.Lowering.{may-lower, nested_at}
-use borrow.Author.Rules.{rules}
 use Rattle.edit_entry.proofs.nesting.nest_entry.Goals as goal
 
 pub lower_block-requires : goal.lower_block-requires

@@ -1,6 +1,5 @@
 -- `free_one` meets its contract. Assumes nothing.
 use mathlib.Core.Path.{◌∙◌, sym}
-use borrow.Author.Rules.{rules}
 use Rattle.edit_entry.proofs.Clears.{stands-asked, one_held, one_freed}
 use Rattle.edit_entry.proofs.removing.free_one.Goals as goal
 

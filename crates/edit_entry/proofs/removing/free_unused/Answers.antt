@@ -5,7 +5,6 @@ use Prim.Native.Nat.{ℕ}
 use native.Mathlib.Omega.{arith}
 use lib.ListN.{length-replicate}
 use lib.Seq.{length-take-le}
-use borrow.Author.Rules.{rules}
 use Rattle.layout.proofs.Zeros.{zeros-read}
 use Rattle.edit_entry.proofs.Clears.{all_marked, used-swept}
 use Rattle.edit_entry.proofs.removing.free_unused.Goals as goal

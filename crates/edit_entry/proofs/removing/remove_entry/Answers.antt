@@ -2,7 +2,6 @@
 use mathlib.Core.Path.{refl, sym}
 use native.Mathlib.Omega.{arith}
 use lib.Seq.{length-take-le}
-use borrow.Author.Rules.{rules}
 use Rattle.edit_entry.proofs.Removes.{may-free-one, removed-one, may-free-unused, removed-more}
 use Rattle.edit_entry.proofs.removing.remove_entry.Goals as goal
 

@@ -1,12 +1,10 @@
 -- `cell_ok` meets its contract.
 -- Assumes nothing.
 use mathlib.Core.Path.{refl, ap, ◌∙◌}
-use Prim.Native.Nat.{◌+◌, ◌-◌, ◌*◌}
-use borrow.Author.Rules.{rules}
+use Prim.Native.Nat.{◌+◌, ◌*◌}
 use borrow.Author.Tests.{le-leb, lt-leb}
 use Rattle.layout.specs.Lawful.{cell_ok}
 use Rattle.lawful_entries.proofs.Looking.{part-name}
-use borrow.Author.Rules.{rules}
 use Rattle.lawful.proofs.cells.cell_ok.Goals as goal
 
 pub returns-then-n-gt-LONGEST : goal.returns-then-n-gt-LONGEST

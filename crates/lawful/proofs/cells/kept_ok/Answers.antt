@@ -2,7 +2,6 @@
 -- Assumes nothing.
 use Prim.Native.Nat.{ℕ, ◌<◌}
 use lib.Dec.{T}
-use borrow.Author.Rules.{rules}
 use borrow.Author.Tests.{not-true, not-false}
 use Rattle.lawful.specs.Parts.{number_in}
 use Rattle.lawful.proofs.Slotting.{kept_here}

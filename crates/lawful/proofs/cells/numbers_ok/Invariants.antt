@@ -1,13 +1,8 @@
 -- `numbers_ok` meets its contract. The loop's invariant: the numbers below j are right.
 -- Assumes nothing.
-use mathlib.Core.Path.{sym, ◌∙◌, subst}
 use Prim.Native.Nat.{ℕ, ◌-◌, ◌≤◌, ◌<◌}
-use native.Mathlib.Omega.{arith}
 use lib.Dec.{T}
-use borrow.Author.Count.{below_more}
-use borrow.Author.Tests.{not-true, not-false}
 use Rattle.lawful.specs.Parts.{number_in}
-use Rattle.lawful.proofs.Slotting.{number-closed, number-far, number-open}
 use Rattle.lawful.proofs.cells.numbers_ok.Given as goal
 
 abbrev pub invariant-loop-j : goal.invariant-loop-j

@@ -2,10 +2,8 @@
 -- Assumes nothing.
 use mathlib.Core.Path.{sym, ◌∙◌}
 use lib.ListN.{length}
-use borrow.Author.Rules.{rules}
 use borrow.Author.Tests.{le-leb, lt-leb}
 use Rattle.lawful_entries.proofs.Walking.{form-ok, form-bad}
-use borrow.Author.Rules.{rules}
 use Rattle.lawful.proofs.cells.piece_ok.Goals as goal
 
 pub returns-then-kind_of-ne2 : goal.returns-then-kind_of-ne2

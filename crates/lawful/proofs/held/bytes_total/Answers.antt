@@ -1,10 +1,8 @@
 -- `bytes_total` meets its contract. The loop's invariant: n is the sum over the first i slots.
 -- Assumes nothing.
-use mathlib.Core.Path.{◌≡◌, ap, ◌∙◌}
-use Prim.Native.Nat.{◌-◌, ◌*◌, ◌≤◌}
+use mathlib.Core.Path.{ap, ◌∙◌}
 use native.Mathlib.Numerals.{add-one}
 use native.Mathlib.Omega.{arith}
-use lib.ListN.{length, take}
 use lib.Seq.{take_all}
 use Rattle.layout.specs.Fields.{len_of}
 use Rattle.lawful.proofs.Sums.{sum_by, sum_none, sum_more, sum-slots}

@@ -1,13 +1,10 @@
 -- `bytes_total` meets its contract. The loop's invariant: n is the sum over the first i slots.
 -- Assumes nothing.
-use mathlib.Core.Path.{◌≡◌, ap, ◌∙◌}
+use mathlib.Core.Path.{◌≡◌}
 use Prim.Native.Nat.{◌-◌, ◌*◌, ◌≤◌}
-use native.Mathlib.Numerals.{add-one}
-use native.Mathlib.Omega.{arith}
 use lib.ListN.{length, take}
-use lib.Seq.{take_all}
 use Rattle.layout.specs.Fields.{len_of}
-use Rattle.lawful.proofs.Sums.{sum_by, sum_none, sum_more, sum-slots}
+use Rattle.lawful.proofs.Sums.{sum_by}
 use Rattle.lawful.proofs.held.bytes_total.Given as goal
 
 abbrev pub invariant-loop-i : goal.invariant-loop-i

@@ -1,11 +1,6 @@
 -- `next_link` meets its contract. The loop's invariant: none of the slots before `slot` is a link, and its bytes begin at `at`.
 -- Assumes nothing.
-use mathlib.Core.Path.{◌≡◌}
-use Prim.Native.Nat.{ℕ, ◌+◌, ◌-◌, ◌≤◌, ◌<◌}
 use native.Mathlib.Omega.{arith}
-use lib.ListN.{length, drop, get_or}
-use Rattle.layout.specs.Fields.{kind_of}
-use Rattle.layout.specs.Slots.{total}
 use Rattle.lawful.proofs.Slotting.{others_more}
 use Rattle.lawful.proofs.Sums.{total_next}
 use Rattle.lawful.proofs.held.next_link.Goals as goal

@@ -2,12 +2,9 @@
 -- Assumes nothing.
 use mathlib.Core.Path.{◌≡◌}
 use Prim.Native.Nat.{ℕ, ◌+◌, ◌-◌, ◌≤◌, ◌<◌}
-use native.Mathlib.Omega.{arith}
 use lib.ListN.{length, drop, get_or}
 use Rattle.layout.specs.Fields.{kind_of}
 use Rattle.layout.specs.Slots.{total}
-use Rattle.lawful.proofs.Slotting.{others_more}
-use Rattle.lawful.proofs.Sums.{total_next}
 use Rattle.lawful.proofs.held.next_link.Given as goal
 
 abbrev pub invariant-loop-slot : goal.invariant-loop-slot

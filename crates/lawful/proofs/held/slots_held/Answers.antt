@@ -1,12 +1,10 @@
 -- `slots_held` meets its contract.
 -- Assumes nothing.
 use mathlib.Core.Path.{subst}
-use borrow.Author.Rules.{rules}
 use borrow.Author.Tests.{not-true, not-false}
 use Rattle.lawful_limits.specs.Settles.{Settles}
 use Rattle.lawful_slots.specs.Uses.{SlotsRight}
 use Rattle.lawful.proofs.Slotting.{held-bad, held-links}
-use borrow.Author.Rules.{rules}
 use Rattle.lawful.proofs.held.slots_held.Goals as goal
 
 pub returns-then-not-slots_ok : goal.returns-then-not-slots_ok

@@ -1,10 +1,8 @@
 -- `target_ok` meets its contract.
 -- Assumes nothing.
 use mathlib.Core.Path.{sym, ◌∙◌}
-use borrow.Author.Rules.{rules}
 use borrow.Author.Tests.{not-true, not-false}
 use Rattle.model.specs.Rules.{target_ok}
-use borrow.Author.Rules.{rules}
 use Rattle.lawful.proofs.held.target_ok.Goals as goal
 
 pub returns-then-not-text_ok : goal.returns-then-not-text_ok

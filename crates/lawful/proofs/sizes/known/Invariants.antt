@@ -1,11 +1,9 @@
 -- `known` meets its contract: each time that is read is within its bounds. Assumes nothing.
 use Prim.Native.Nat.{ℕ, ◌-◌, ◌≤◌, ◌<◌}
-use native.Mathlib.Omega.{arith}
 use lib.Dec.{T}
 use lib.IntN.{pos}
 use lib.ListN.{length, get_or}
 use Rattle.model.specs.Rules.{time_ok}
-use Rattle.layout.proofs.Sizes.{time-known, known_more, known_all}
 use Rattle.lawful.proofs.sizes.known.Given as goal
 
 abbrev pub invariant-loop-i : goal.invariant-loop-i

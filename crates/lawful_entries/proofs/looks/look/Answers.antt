@@ -1,12 +1,12 @@
 -- `look` meets its contract. The loop's invariant: the flags say what the bytes before i say.
 -- Assumes nothing.
 use mathlib.Core.Bool.{Bool, ◌||◌, or_assoc}
-use mathlib.Core.Path.{◌≡◌, sym, ap, ◌∙◌}
-use Prim.Native.Nat.{ℕ, ◌-◌, ◌≤◌}
+use mathlib.Core.Path.{sym, ap, ◌∙◌}
+use Prim.Native.Nat.{ℕ}
 use native.Mathlib.Numerals.{add-one}
 use native.Mathlib.Omega.{arith}
 use lib.Dec.{eqb, leb}
-use lib.ListN.{length, take, get_or}
+use lib.ListN.{get_or}
 use lib.Seq.{take_all}
 use Rattle.text.specs.Looks as octets
 use Rattle.lawful_entries.specs.Looks.{any}

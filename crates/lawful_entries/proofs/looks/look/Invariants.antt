@@ -1,17 +1,11 @@
 -- `look` meets its contract. The loop's invariant: the flags say what the bytes before i say.
 -- Assumes nothing.
-use mathlib.Core.Bool.{Bool, ◌||◌, or_assoc}
-use mathlib.Core.Path.{◌≡◌, sym, ap, ◌∙◌}
-use Prim.Native.Nat.{ℕ, ◌-◌, ◌≤◌}
-use native.Mathlib.Numerals.{add-one}
-use native.Mathlib.Omega.{arith}
-use lib.Dec.{eqb, leb}
-use lib.ListN.{length, take, get_or}
-use lib.Seq.{take_all}
+use mathlib.Core.Path.{◌≡◌}
+use Prim.Native.Nat.{◌-◌, ◌≤◌}
+use lib.ListN.{length, take}
 use Rattle.text.specs.Looks as octets
 use Rattle.lawful_entries.specs.Looks.{any}
 use Rattle.lawful_entries.specs.Looks as looks
-use Rattle.lawful_entries.proofs.Looking.{any_none, any_more}
 use Rattle.lawful_entries.proofs.looks.look.Given as goal
 
 abbrev pub invariant-loop-i : goal.invariant-loop-i

@@ -2,10 +2,8 @@
 -- Assumes nothing.
 use mathlib.Core.Path.{sym, ◌∙◌}
 use lib.Seq.{length-take-le}
-use borrow.Author.Rules.{rules}
 use borrow.Author.Tests.{not-true}
 use Rattle.lawful_entries.proofs.Looking.{clean-slash, clean-text, clean-plain}
-use borrow.Author.Rules.{rules}
 use Rattle.lawful_entries.proofs.looks.names_clean.Goals as goal
 
 pub slice_bounds-look-end : goal.slice_bounds-look-end

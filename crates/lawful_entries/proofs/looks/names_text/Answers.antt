@@ -1,14 +1,10 @@
 -- `names_text` meets its contract. The loop's invariant: the names from record i on, which stand from `off` on, decide.
 -- Assumes nothing.
-use mathlib.Core.Path.{◌≡◌, refl, sym, ◌∙◌}
-use Prim.Native.Nat.{◌+◌, ◌-◌, ◌≤◌}
+use mathlib.Core.Path.{refl, sym, ◌∙◌}
 use native.Mathlib.Numerals.{add-one}
 use native.Mathlib.Omega.{arith}
-use lib.ListN.{length, drop}
-use borrow.Author.Rules.{rules}
+use lib.ListN.{drop}
 use borrow.Author.Tests.{not-true, not-false}
-use Rattle.layout.specs.Rows.{rows, name_total}
-use Rattle.lawful_entries.specs.Looks.{text_rows}
 use Rattle.lawful_entries.proofs.Looking.{total_at, text-bad, text_on, text-end}
 use Rattle.lawful_entries.proofs.looks.names_text.Goals as goal
 

@@ -3,7 +3,6 @@
 use mathlib.Core.Path.{◌≡◌, sym, ◌∙◌}
 use Prim.Native.Nat.{ℕ}
 use native.Mathlib.Omega.{arith}
-use borrow.Author.Rules.{rules}
 use Rattle.name_order.specs.declared.Order.TheVariants.{Same, More}
 use Rattle.lawful_entries.proofs.Ordered.{order-less, order_other}
 use Rattle.lawful_entries.proofs.rising.rises.Goals as goal

@@ -2,9 +2,8 @@
 -- Assumes nothing.
 use mathlib.Core.Bool.{true}
 use mathlib.Core.Path.{refl, sym, ap, ◌∙◌}
-use Prim.Native.Nat.{◌+◌, ◌-◌}
+use Prim.Native.Nat.{◌+◌}
 use lib.ListN.{take}
-use borrow.Author.Rules.{rules}
 use Rattle.path.specs.Path.{Name}
 use Rattle.path.specs.Backward.{kind_of}
 use Rattle.layout.specs.Fields.{nlen_of}
@@ -12,7 +11,6 @@ use Rattle.layout.specs.Lawful.{follows}
 use Rattle.lawful_entries.specs.Fits.{row_at, spell}
 use Rattle.lawful_entries.proofs.Looking.{part-name}
 use Rattle.lawful_entries.proofs.Walking.{fits-slot, fits-form, fits-rest}
-use borrow.Author.Rules.{rules}
 use Rattle.lawful_entries.proofs.walk.entry_ok.Goals as goal
 
 pub returns-then-n-w : goal.returns-then-n-w

@@ -4,9 +4,7 @@
 use mathlib.Core.Path.{refl, ◌∙◌}
 use Prim.Native.Nat.{◌-◌}
 use native.Mathlib.Omega.{arith}
-use borrow.Author.Rules.{rules}
 use Rattle.lawful_entries.proofs.Walking.{follows-beside, follows-deep, follows-first}
-use borrow.Author.Rules.{rules}
 use Rattle.lawful_entries.proofs.walk.follows_ok.Goals as goal
 
 pub overflow_cast-v : goal.overflow_cast-v

@@ -3,7 +3,6 @@
 use lib.ListN.{length}
 use borrow.Author.Tests.{eq-eqb, ne_eqb, lt-ltb, le-ltb}
 use Rattle.layout.specs.Fields.{depth_of, nlen_of, slot_of}
-use borrow.Author.Rules.{rules}
 use Rattle.lawful_entries.proofs.walk.root_ok.Goals as goal
 
 pub returns-then-w-ne0 : goal.returns-then-w-ne0

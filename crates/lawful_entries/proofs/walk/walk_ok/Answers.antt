@@ -4,11 +4,9 @@ use mathlib.Core.Path.{sym, ◌∙◌}
 use Prim.Native.Nat.{ℕ}
 use native.Mathlib.Omega.{arith}
 use lib.ListN.{length, length-replicate}
-use borrow.Author.Rules.{rules}
 use borrow.Author.Tests.{not-true, not-false}
 use Rattle.lawful_entries.specs.Fits.{kind_in}
 use Rattle.lawful_entries.proofs.Walking.{root_none, root-bad, root_on, root-total}
-use borrow.Author.Rules.{rules}
 use Rattle.lawful_entries.proofs.walk.walk_ok.Goals as goal
 
 pub returns-then-recs-eq0 : goal.returns-then-recs-eq0

@@ -1,11 +1,9 @@
 -- `walk_rest` meets its contract. The loop's invariant is `Walked`: the entries that are left decide.
 -- Assumes nothing.
 use mathlib.Core.Path.{sym, ◌∙◌}
-use Prim.Native.Nat.{◌-◌}
 use native.Mathlib.Omega.{arith}
-use lib.ListN.{length}
 use borrow.Author.Tests.{not-true, not-false}
-use Rattle.lawful_entries.proofs.Walking.{Walked, walked_start, walked-name, walked-slot, walked-depth, walked-bad, walked_on, walked_end}
+use Rattle.lawful_entries.proofs.Walking.{walked_start, walked-name, walked-slot, walked-depth, walked-bad, walked_on, walked_end}
 use Rattle.lawful_entries.proofs.walk.walk_rest.Goals as goal
 
 pub loop-i-init : goal.loop-i-init

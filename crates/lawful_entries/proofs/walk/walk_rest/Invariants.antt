@@ -1,11 +1,8 @@
 -- `walk_rest` meets its contract. The loop's invariant is `Walked`: the entries that are left decide.
 -- Assumes nothing.
-use mathlib.Core.Path.{sym, ◌∙◌}
 use Prim.Native.Nat.{◌-◌}
-use native.Mathlib.Omega.{arith}
 use lib.ListN.{length}
-use borrow.Author.Tests.{not-true, not-false}
-use Rattle.lawful_entries.proofs.Walking.{Walked, walked_start, walked-name, walked-slot, walked-depth, walked-bad, walked_on, walked_end}
+use Rattle.lawful_entries.proofs.Walking.{Walked}
 use Rattle.lawful_entries.proofs.walk.walk_rest.Given as goal
 
 abbrev pub invariant-loop-i : goal.invariant-loop-i

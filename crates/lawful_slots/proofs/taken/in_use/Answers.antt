@@ -1,12 +1,10 @@
 -- `in_use` meets its contract. The loop's invariant: n of the first i words are not 0.
 -- Assumes nothing.
-use mathlib.Core.Path.{◌≡◌, ap, ◌∙◌}
-use Prim.Native.Nat.{◌-◌, ◌≤◌}
+use mathlib.Core.Path.{ap, ◌∙◌}
 use native.Mathlib.Numerals.{add-one}
 use native.Mathlib.Omega.{arith}
-use lib.ListN.{length, take, get_or}
+use lib.ListN.{get_or}
 use lib.Seq.{take_all}
-use borrow.Author.Rules.{rules}
 use Rattle.lawful_slots.specs.Uses.{filled}
 use Rattle.lawful_slots.proofs.Filled.{one_most, filled-empty, filled_more}
 use Rattle.lawful_slots.proofs.taken.in_use.Goals as goal

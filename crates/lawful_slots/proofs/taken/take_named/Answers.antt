@@ -1,16 +1,14 @@
 -- `take_named` meets its contract. The loop's invariant: the slots are taken that the first i records name.
 -- Assumes nothing.
-use mathlib.Core.Path.{◌≡◌, sym, ◌∙◌, subst}
-use Prim.Native.Nat.{◌-◌, ◌≤◌, ◌<◌}
+use mathlib.Core.Path.{sym, ◌∙◌, subst}
+use Prim.Native.Nat.{◌<◌}
 use native.Mathlib.Omega.{arith}
 use lib.Dec.{T}
 use lib.ListN.{length, get_or, length-set}
 use lib.Seq.{take_all}
-use borrow.Author.Rules.{rules}
 use borrow.Author.Tests.{not-true, not-false}
 use Rattle.layout.specs.Fields.{slot_of}
-use Rattle.lawful_slots.specs.Uses.{filled}
-use Rattle.lawful_slots.proofs.Taking.{NamedTo, named_none, named_more, named-filled, named-twice, named-wrong}
+use Rattle.lawful_slots.proofs.Taking.{named_none, named_more, named-filled, named-twice, named-wrong}
 use Rattle.lawful_slots.proofs.taken.take_named.Goals as goal
 
 pub loop-i-init : goal.loop-i-init

@@ -1,11 +1,8 @@
 -- `take_open` meets its contract. The loop's invariant: the slots are taken too that one of the first j numbers stands on.
 -- Assumes nothing.
 use mathlib.Core.Path.{◌≡◌}
-use mathlib.Core.Bool.{true}
-use Prim.Native.Nat.{◌-◌, ◌≤◌}
 use native.Mathlib.Omega.{arith}
-use lib.ListN.{length, length-set}
-use Rattle.lawful_slots.specs.Uses.{OpenedBy}
+use lib.ListN.{length-set}
 use Rattle.lawful_slots.proofs.Taking.{opened_none, opened-closed, opened-far, opened-wrong, opened-again, opened-more}
 use Rattle.lawful_slots.proofs.taken.take_open.Goals as goal
 

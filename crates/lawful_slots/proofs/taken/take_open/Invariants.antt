@@ -3,10 +3,8 @@
 use mathlib.Core.Path.{◌≡◌}
 use mathlib.Core.Bool.{true}
 use Prim.Native.Nat.{◌-◌, ◌≤◌}
-use native.Mathlib.Omega.{arith}
-use lib.ListN.{length, length-set}
+use lib.ListN.{length}
 use Rattle.lawful_slots.specs.Uses.{OpenedBy}
-use Rattle.lawful_slots.proofs.Taking.{opened_none, opened-closed, opened-far, opened-wrong, opened-again, opened-more}
 use Rattle.lawful_slots.proofs.taken.take_open.Given as goal
 
 abbrev pub invariant-loop-j : goal.invariant-loop-j

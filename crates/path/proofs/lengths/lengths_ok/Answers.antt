@@ -1,9 +1,6 @@
 -- `lengths::lengths_ok` meets its contract. The loop's invariant: the pieces before i are short, so those from i on decide.
-use borrow.Author.Rules.{rules}
-use Prim.Native.Nat.{◌-◌, ◌≤◌}
 use native.Mathlib.Omega.{arith}
-use lib.ListN.{length}
-use Rattle.path.proofs.Texts.{Rest, rest_whole, rest-on, rest-long, rest-short, too_long}
+use Rattle.path.proofs.Texts.{rest_whole, rest-on, rest-long, rest-short, too_long}
 use Rattle.path.proofs.lengths.lengths_ok.Goals as goal
 
 pub returns-then-s-gt1024 : goal.returns-then-s-gt1024

@@ -1,9 +1,7 @@
 -- `lengths::lengths_ok` meets its contract. The loop's invariant: the pieces before i are short, so those from i on decide.
-use borrow.Author.Rules.{rules}
 use Prim.Native.Nat.{◌-◌, ◌≤◌}
-use native.Mathlib.Omega.{arith}
 use lib.ListN.{length}
-use Rattle.path.proofs.Texts.{Rest, rest_whole, rest-on, rest-long, rest-short, too_long}
+use Rattle.path.proofs.Texts.{Rest}
 use Rattle.path.proofs.lengths.lengths_ok.Given as goal
 
 abbrev pub invariant-loop-i : goal.invariant-loop-i

@@ -2,7 +2,6 @@
 use mathlib.Core.Path.{sym}
 use native.Mathlib.Omega.{arith}
 use Rattle.path.proofs.Dots.{kind_none, kind-long, kind_other, kind-dot, kind_two, kind-struck, kind-named}
-use borrow.Author.Rules.{rules}
 use Rattle.path.proofs.pieces.kind_of.Goals as goal
 
 pub returns-then-len-gt2 : goal.returns-then-len-gt2

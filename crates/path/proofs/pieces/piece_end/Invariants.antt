@@ -1,10 +1,8 @@
 -- `pieces::piece_end` meets its contract. The loop's invariant: no slash in what was passed.
 -- Assumes nothing.
 use Prim.Native.Nat.{◌+◌, ◌-◌, ◌≤◌}
-use native.Mathlib.Omega.{arith}
 use lib.ListN.{length, take, drop}
 use Rattle.path.proofs.Cutting.{NoSlash}
-use Rattle.path.proofs.Keeping.{piece_more, piece_whole}
 use Rattle.path.proofs.pieces.piece_end.Given as goal
 
 abbrev pub invariant-loop-j : goal.invariant-loop-j

@@ -1,5 +1,5 @@
 -- `pieces::piece_start` meets its contract. The loop's invariant: no slash from a to e.
-use Prim.Native.Nat.{◌≤◌, zero-le}
+use Prim.Native.Nat.{zero-le}
 use mathlib.Core.Path.{◌≡◌}
 use native.Mathlib.Omega.{arith}
 use Rattle.path.specs.Backward.{part}

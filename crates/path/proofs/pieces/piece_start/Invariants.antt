@@ -1,9 +1,7 @@
 -- `pieces::piece_start` meets its contract. The loop's invariant: no slash from a to e.
-use Prim.Native.Nat.{◌≤◌, zero-le}
-use mathlib.Core.Path.{◌≡◌}
-use native.Mathlib.Omega.{arith}
+use Prim.Native.Nat.{◌≤◌}
 use Rattle.path.specs.Backward.{part}
-use Rattle.path.proofs.Cutting.{NoSlash, part-empty, part_step, piece_is}
+use Rattle.path.proofs.Cutting.{NoSlash}
 use Rattle.path.proofs.pieces.piece_start.Given as goal
 
 abbrev pub invariant-loop-a : goal.invariant-loop-a

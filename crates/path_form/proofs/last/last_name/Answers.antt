@@ -3,7 +3,6 @@ use mathlib.Core.Path.{sym}
 use Rattle.path.specs.Answer.{PlaceIs}
 use Rattle.path.specs.declared.answer.Place.TheVariants.{InPath, InCwd}
 use Rattle.path.proofs.Lasts.{place-told, place_none}
-use borrow.Author.Rules.{rules}
 use Rattle.path_form.proofs.last.last_name.Goals.{In-InCwd, In-InPath}
 use Rattle.path_form.proofs.last.last_name.Goals as goal
 

@@ -2,7 +2,6 @@
 use mathlib.Core.Path.{sym, ◌∙◌}
 use native.Mathlib.Omega.{arith}
 use Rattle.path.proofs.Lasts.{told, in_path, at-root, in-cwd, nowhere}
-use borrow.Author.Rules.{rules}
 use Rattle.path_form.proofs.last.last_place.Goals as goal
 
 pub returns-then-is_absolute : goal.returns-then-is_absolute

@@ -2,7 +2,6 @@
 use mathlib.Core.Path.{sym, ◌∙◌}
 use Prim.Native.Nat.{zero-le}
 use Rattle.path.proofs.Forming.{from_absolute, from_relative}
-use borrow.Author.Rules.{rules}
 use Rattle.path_form.proofs.link.dir_kept.Goals as goal
 
 pub returns-then-is_absolute : goal.returns-then-is_absolute

@@ -4,7 +4,6 @@ use Prim.Native.Nat.{◌-◌}
 use native.Mathlib.Omega.{arith}
 use Rattle.path.proofs.Cutting.{part_length}
 use Rattle.path.proofs.Forming.{follow-long, follow-forms}
-use borrow.Author.Rules.{rules}
 use Rattle.path_form.proofs.link.follow.Goals as goal
 
 pub returns-then-first-kept : goal.returns-then-first-kept

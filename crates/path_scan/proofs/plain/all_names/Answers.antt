@@ -1,7 +1,6 @@
 -- `plain::all_names` meets its contract: a clean text that begins and ends like names has only names.
 use native.Mathlib.Omega.{arith}
 use Rattle.path.proofs.Following.{clean-names, never}
-use borrow.Author.Rules.{rules}
 use Rattle.path_scan.proofs.plain.all_names.Goals as goal
 
 pub returns-then-end-from : goal.returns-then-end-from

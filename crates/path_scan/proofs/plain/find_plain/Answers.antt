@@ -1,7 +1,5 @@
 -- `plain::find_plain` meets its contract.
-use native.Mathlib.Omega.{arith}
 use Rattle.path.proofs.Following.{plain-absolute, plain-relative}
-use borrow.Author.Rules.{rules}
 use Rattle.path_scan.proofs.plain.find_plain.Goals as goal
 
 pub returns-then-s-eq0 : goal.returns-then-s-eq0

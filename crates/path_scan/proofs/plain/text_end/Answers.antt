@@ -1,6 +1,5 @@
 -- `plain::text_end` meets its contract.
 use Rattle.path.proofs.Following.{end-slash, end_whole}
-use borrow.Author.Rules.{rules}
 use Rattle.path_scan.proofs.plain.text_end.Goals as goal
 
 pub returns-then-s-e-eq47 : goal.returns-then-s-e-eq47

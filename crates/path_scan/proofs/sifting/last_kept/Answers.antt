@@ -1,5 +1,4 @@
 -- `sifting::last_kept` meets its contract. The loop's invariant: what was read keeps no name.
-use borrow.Author.Rules.{rules}
 use mathlib.Core.Bool.{true}
 use mathlib.Core.List.{[]}
 use mathlib.Core.Path.{◌≡◌}

@@ -9,7 +9,6 @@ use Rattle.path.specs.Backward.{Sifted}
 use Rattle.path.specs.declared.answer.Plain.TheVariants.{From}
 use Rattle.path.proofs.Following.{sifted-empty, plain-told, plain-behind, plain-length}
 use Rattle.path.proofs.Reading.{body_none}
-use borrow.Author.Rules.{rules}
 use Rattle.path_scan.proofs.sifting.measure.Goals.{In-From}
 use Rattle.path_scan.proofs.sifting.measure.Goals as goal
 

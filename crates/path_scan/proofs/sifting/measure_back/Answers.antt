@@ -1,11 +1,10 @@
 -- `sifting::measure_back` meets its contract. The loop's invariant: what was read keeps names whose text is `len` long.
-use borrow.Author.Rules.{rules}
-use mathlib.Core.List.{List, [], ◌∷◌}
+use mathlib.Core.List.{[], ◌∷◌}
 use mathlib.Core.Path.{◌≡◌, sym, ap, ◌∙◌}
-use Prim.Native.Nat.{◌+◌, ◌-◌, ◌≤◌}
+use Prim.Native.Nat.{◌-◌}
 use native.Mathlib.Omega.{arith}
 use lib.ListN.{length}
-use Rattle.path.specs.Path.{Name, body}
+use Rattle.path.specs.Path.{body}
 use Rattle.path.specs.Backward.{Sifted, part}
 use Rattle.path.specs.Answer.{BackIs}
 use Rattle.path.specs.declared.answer.Back.TheVariants.{Gone, Keeps}

@@ -1,6 +1,5 @@
 -- `sifting::put_back` meets its contract. The loop's invariant: the names kept of what was read are stored from `at` to `end`.
-use borrow.Author.Rules.{rules}
-use mathlib.Core.List.{List, [], ◌∷◌}
+use mathlib.Core.List.{[], ◌∷◌}
 use mathlib.Core.Path.{◌≡◌, refl, ◌∙◌}
 use Prim.Native.Nat.{◌+◌, ◌-◌, ◌≤◌}
 use native.Mathlib.Omega.{arith}
@@ -11,7 +10,7 @@ use Rattle.path.specs.Answer.{BackIs}
 use Rattle.path.specs.declared.answer.Back.TheVariants.{Gone, Keeps}
 use Rattle.path.proofs.Cutting.{part_length}
 use Rattle.path.proofs.Reading.{Read, read_none, read-gone, read_kept, read_fits, told, body-cons-length}
-use Rattle.path.proofs.Storing.{Stored, stored_none, stored_more, stored_all}
+use Rattle.path.proofs.Storing.{stored_none, stored_more, stored_all}
 use Rattle.path_scan.proofs.sifting.put_back.Goals.{In-Gone, In-Keeps}
 use Rattle.path_scan.proofs.sifting.put_back.Goals as goal
 

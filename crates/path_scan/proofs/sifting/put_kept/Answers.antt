@@ -10,7 +10,6 @@ use Rattle.path.specs.Backward.{sifted, part}
 use Rattle.path.specs.declared.answer.Plain.TheVariants.{From}
 use Rattle.path.proofs.Cutting.{part_length}
 use Rattle.path.proofs.Following.{empty-stored, plain-told, plain_body, plain-length, plain-stored}
-use borrow.Author.Rules.{rules}
 use Rattle.path_scan.proofs.sifting.put_kept.Goals.{In-From}
 use Rattle.path_scan.proofs.sifting.put_kept.Goals as goal
 

@@ -6,7 +6,6 @@ use Rattle.path.specs.Backward.{part}
 use Rattle.path.proofs.Cutting.{part_length}
 use Rattle.path.proofs.Dots.{named, up_length}
 use Rattle.path.proofs.Reading.{back-gone, back_up, back-dropped, back-kept}
-use borrow.Author.Rules.{rules}
 use Rattle.path_scan.proofs.sifting.read_back.Goals as goal
 
 pub returns-then-k-eq0 : goal.returns-then-k-eq0

@@ -1,15 +1,12 @@
 -- `is_used` meets its contract. The loop's invariant: the flag says whether a record passed has the slot. Assumes nothing.
 use mathlib.Core.Path.{◌≡◌, refl, ap, ◌∙◌}
-use Prim.Native.Nat.{◌-◌, ◌≤◌}
+use Prim.Native.Nat.{◌-◌}
 use native.Mathlib.Omega.{arith}
 use lib.Dec.{eqb}
-use lib.ListN.{get_or, take, drop}
+use lib.ListN.{get_or}
 use mathlib.Core.Bool.{Bool, ◌||◌}
 use Rattle.layout.specs.Fields.{slot_of}
-use Rattle.slots.specs.Uses.{is_used}
 use Rattle.slots.proofs.Seeking.{used-nil, used_turn}
-use Rattle.slots.proofs.marks.is_used.Reads as reads
-use Rattle.slots.proofs.marks.is_used.Lts as lts
 use Rattle.slots.proofs.marks.is_used.Goals as goal
 
 pub loop-i-init : goal.loop-i-init

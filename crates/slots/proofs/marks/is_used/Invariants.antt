@@ -1,15 +1,8 @@
 -- `is_used` meets its contract. The loop's invariant: the flag says whether a record passed has the slot. Assumes nothing.
-use mathlib.Core.Path.{◌≡◌, refl, ap, ◌∙◌}
-use Prim.Native.Nat.{◌-◌, ◌≤◌}
-use native.Mathlib.Omega.{arith}
-use lib.Dec.{eqb}
-use lib.ListN.{get_or, take, drop}
-use mathlib.Core.Bool.{Bool, ◌||◌}
-use Rattle.layout.specs.Fields.{slot_of}
+use mathlib.Core.Path.{◌≡◌}
+use Prim.Native.Nat.{◌≤◌}
+use lib.ListN.{take, drop}
 use Rattle.slots.specs.Uses.{is_used}
-use Rattle.slots.proofs.Seeking.{used-nil, used_turn}
-use Rattle.slots.proofs.marks.is_used.Reads as reads
-use Rattle.slots.proofs.marks.is_used.Lts as lts
 use Rattle.slots.proofs.marks.is_used.Given as goal
 
 abbrev pub invariant-loop-i : goal.invariant-loop-i

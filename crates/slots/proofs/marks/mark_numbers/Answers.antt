@@ -1,10 +1,9 @@
 -- `mark_numbers` meets its contract. The loop's invariant: the marks have 2 more where one of the first j numbers stands.
 -- Assumes nothing.
 use mathlib.Core.Path.{◌≡◌}
-use Prim.Native.Nat.{◌-◌, ◌≤◌}
 use native.Mathlib.Omega.{arith}
-use lib.ListN.{length, length-set}
-use Rattle.slots.proofs.Counting.{Added, added_none, added-closed, added-again, added_more}
+use lib.ListN.{length-set}
+use Rattle.slots.proofs.Counting.{added_none, added-closed, added-again, added_more}
 use Rattle.slots.proofs.marks.mark_numbers.Goals as goal
 
 pub loop-j-init : goal.loop-j-init

@@ -2,9 +2,8 @@
 -- Assumes nothing.
 use mathlib.Core.Path.{◌≡◌}
 use Prim.Native.Nat.{◌-◌, ◌≤◌}
-use native.Mathlib.Omega.{arith}
-use lib.ListN.{length, length-set}
-use Rattle.slots.proofs.Counting.{Added, added_none, added-closed, added-again, added_more}
+use lib.ListN.{length}
+use Rattle.slots.proofs.Counting.{Added}
 use Rattle.slots.proofs.marks.mark_numbers.Given as goal
 
 abbrev pub invariant-loop-j : goal.invariant-loop-j

@@ -1,11 +1,9 @@
 -- `mark_records` meets its contract. The loop's invariant: the marks say how often the first i records name each slot.
 -- Assumes nothing.
-use mathlib.Core.Path.{◌≡◌}
-use Prim.Native.Nat.{◌-◌, ◌≤◌}
 use native.Mathlib.Omega.{arith}
-use lib.ListN.{length, length-set}
+use lib.ListN.{length-set}
 use lib.Seq.{take_all}
-use Rattle.slots.proofs.Counting.{Said, said_none, said_more, said-twice}
+use Rattle.slots.proofs.Counting.{said_none, said_more, said-twice}
 use Rattle.slots.proofs.marks.mark_records.Goals as goal
 
 pub loop-i-init : goal.loop-i-init

@@ -2,10 +2,8 @@
 -- Assumes nothing.
 use mathlib.Core.Path.{◌≡◌}
 use Prim.Native.Nat.{◌-◌, ◌≤◌}
-use native.Mathlib.Omega.{arith}
-use lib.ListN.{length, length-set}
-use lib.Seq.{take_all}
-use Rattle.slots.proofs.Counting.{Said, said_none, said_more, said-twice}
+use lib.ListN.{length}
+use Rattle.slots.proofs.Counting.{Said}
 use Rattle.slots.proofs.marks.mark_records.Given as goal
 
 abbrev pub invariant-loop-i : goal.invariant-loop-i
