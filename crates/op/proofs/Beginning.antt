@@ -32,7 +32,7 @@ use Rattle.op.specs.declared.begin.Begun.{Begun}
 use Rattle.op.specs.declared.begin.Begun.TheVariants as begun
 use Rattle.op.specs.Testing.{screen_of, Tested, AbsoluteIs, PathIn}
 use Rattle.op.specs.Testing as testing
-use Rattle.op.specs.Beginning.{taken, Stops, screened, Begins, broken, tested, formed}
+use Rattle.op.specs.Beginning.{taken, Stops, screened, Begins, broken, tested}
 use Rattle.op.proofs.Leading.{path-formed, path-long}
 
 -- ---- the path

@@ -1,14 +1,14 @@
 -- A whole call with one path: refused as it begins, or what its operation comes to at the path in front of the working buffer.
 -- Assumes nothing.
-use mathlib.Core.List.{List, [], ◌∷◌}
+use mathlib.Core.List.{[], ◌∷◌}
 use mathlib.Core.Path.{◌≡◌, refl, sym, ap, ◌∙◌, subst}
 use Prim.Native.Nat.{ℕ}
 use native.Mathlib.Omega.{arith}
-use lib.ListN.{length, take}
+use lib.ListN.{take}
 use Rattle.text.specs.Utf8.{Bytes}
 use Rattle.path.specs.Path.{names}
-use Rattle.model.specs.Tree.{Path, Open, links_in}
-use Rattle.model.specs.Prog.{World, Prog, Out, refused, run}
+use Rattle.model.specs.Tree.{Path, links_in}
+use Rattle.model.specs.Prog.{Prog, Out, refused, run}
 use Rattle.model.specs.Operations.Steps.{Reply}
 use Rattle.model.specs.Calls.States.{State, world_of}
 use Rattle.model.specs.Calls.Calling.{Op, canonicalize, set_current_dir, read_file, metadata, symlink_metadata, read_link, list, Given, given_to, with_texts, screen}

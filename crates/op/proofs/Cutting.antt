@@ -12,7 +12,6 @@ use lib.Seq.{get_or-take, take-take, length-take-le, take-append_seam, drop-appe
 use Rattle.text.specs.Utf8.{Bytes}
 use Rattle.model.proofs.Alike.States.{alike_refl}
 use Rattle.model.specs.Rules.{time_ok}
-use Rattle.model.specs.Calls.States.{State}
 use Rattle.model.specs.Alike.{Alike}
 use Rattle.layout.specs.Numbers.{word_count, most_at, room_at, extent_at, paths_bytes}
 use Rattle.layout.specs.Store.{Store, lent, most, room, extent, slots_for, state, core, spare}
@@ -20,7 +19,7 @@ use Rattle.layout.specs.Lawful.{Lawful, Long, Passes, Sized}
 use Rattle.layout.specs.Answers.{read_back}
 use Rattle.layout.proofs.Edited.Shapes.{lawful-shape}
 use Rattle.layout.proofs.Sizes.{sized-cut}
-use Rattle.edit_room.specs.Extents.{trim, Roomy}
+use Rattle.edit_room.specs.Extents.{trim}
 use Rattle.store.specs.Shows.{Shows}
 
 -- with room for the words of all slots

@@ -2,18 +2,14 @@
 -- has it within its limits, so that 15 and 16 are not the answer then. And from there to the whole call.
 -- Assumes nothing.
 use mathlib.Core.Bool.{Bool, true}
-use mathlib.Core.List.{List}
 use mathlib.Core.Path.{◌≡◌, refl, sym, ap, ◌∙◌, subst}
-use Prim.Native.Nat.{ℕ, zero, suc, ◌*◌, ◌≤◌, ◌<◌, ◌^◌}
+use Prim.Native.Nat.{ℕ, zero, suc, ◌≤◌}
 use native.Mathlib.Omega.{arith}
-use lib.Dec.{T, leb}
-use lib.IntN.{pos}
-use lib.ListN.{get_or, take}
+use lib.Dec.{leb}
 use borrow.Author.Tests.{le-leb}
 use Rattle.model.specs.Refusals.{bad_store}
-use Rattle.model.specs.Rules.{time_ok}
 use Rattle.model.specs.Tree.{Files, links_in}
-use Rattle.model.specs.Prog.{World, Prog, Out, done, refused, run}
+use Rattle.model.specs.Prog.{World, Prog, done, refused, run}
 use Rattle.model.specs.Operations.Steps.{Reply}
 use Rattle.model.specs.Calls.States.{State, entries_used, bytes_used, world_of, state_of}
 use Rattle.model.specs.Calls.Calling.{given_to, screen}
@@ -26,9 +22,9 @@ use Rattle.model.proofs.Alike.States.{alike-used}
 use Rattle.model.proofs.Demand.Keeping.{kept_all}
 use Rattle.model.proofs.Space.Room.{room-settles, decided_no}
 use Rattle.model.proofs.Space.States.{Uses}
-use Rattle.layout.specs.Store.{Store, state, slots_for, most, core}
+use Rattle.layout.specs.Store.{Store, state, core}
 use Rattle.layout.specs.Lawful.{Lawful, Passes, Sized}
-use Rattle.layout.specs.Answers.{Lent, call_of, read_back, Carried}
+use Rattle.layout.specs.Answers.{Lent, call_of, read_back}
 use Rattle.layout.proofs.Edited.Shapes.{lawful-shape}
 use Rattle.layout.proofs.Used.{entries-used, bytes-used}
 use Rattle.edit_room.specs.Extents.{trim}

@@ -1,9 +1,9 @@
 -- A given path made absolute: the text that is kept of the current directory reads as its path, so what is formed in the buffer is the
 -- path that the model forms, and fits exactly where that does.
 -- Assumes nothing.
-use mathlib.Core.Path.{◌≡◌, sym, ap, ◌∙◌, subst}
+use mathlib.Core.Path.{◌≡◌, ◌∙◌, subst}
 use Rattle.text.specs.Utf8.{Bytes}
-use Rattle.path.specs.Path.{Name, names, normal, absolute, body, path_fits}
+use Rattle.path.specs.Path.{normal, absolute, body, path_fits}
 use Rattle.path.specs.Answer.{Forms}
 use Rattle.path.specs.declared.answer.Formed.{Formed}
 use Rattle.path.proofs.Allowed.{formed_is, absolute-shown}

@@ -1,10 +1,10 @@
 -- What a path leads to, as a step of an operation: its program goes on with the entry that was found, or is refused as the lookup was.
 -- Assumes nothing.
-use mathlib.Core.Bool.{Bool, true, false}
-use mathlib.Core.List.{List, [], ◌∷◌}
+use mathlib.Core.Bool.{true, false}
+use mathlib.Core.List.{[], ◌∷◌}
 use mathlib.Core.Option.{some}
-use mathlib.Core.Path.{◌≡◌, refl, sym, ap, ◌∙◌, subst}
-use Prim.Native.Nat.{ℕ, ◌/◌, ◌+◌, ◌≤◌, ◌<◌}
+use mathlib.Core.Path.{◌≡◌, ap, ◌∙◌, subst}
+use Prim.Native.Nat.{ℕ, ◌/◌, ◌≤◌, ◌<◌}
 use native.Mathlib.Omega.{arith}
 use lib.Dec.{leb}
 use lib.ListN.{length, take}
@@ -14,14 +14,13 @@ use Rattle.path.specs.Path.{names}
 use Rattle.path.specs.declared.answer.Formed.{Formed}
 use Rattle.path.specs.declared.answer.Formed.TheVariants.{Text, TooLong}
 use Rattle.model.specs.Tree.{Path, dir, file, link, Entries, links_in}
-use Rattle.model.specs.Prog.{World, kind?, Prog, ◌>>=◌, Out, done, refused, run}
+use Rattle.model.specs.Prog.{World, kind?, Prog, ◌>>=◌, Out, refused, run}
 use Rattle.model.specs.Operations.Steps as model
 use Rattle.model.specs.Operations.Steps.{Reply, to_absolute, on_path}
 use Rattle.model.specs.Calls.States.{State, world_of}
 use Rattle.model.proofs.Running.{then, run_bind}
-use Rattle.layout.specs.Store.{Store, count}
+use Rattle.layout.specs.Store.{Store}
 use Rattle.layout.specs.Numbers.{most_entries}
-use Rattle.edit_room.specs.Extents.{trim}
 use Rattle.ask_find.specs.declared.Spot.{Spot}
 use Rattle.ask_entry.specs.Reads.{kind_from}
 use Rattle.store.specs.Shows.{Shows, Stands, Asked, whole, says}

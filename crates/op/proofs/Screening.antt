@@ -4,7 +4,7 @@ use mathlib.Core.Bool.{Bool, true, false, ◌&&◌, not}
 use mathlib.Core.List.{List, [], ◌∷◌}
 use mathlib.Core.Option.{Option, none, some}
 use mathlib.Core.Path.{◌≡◌, refl, sym, ap, ◌∙◌, subst}
-use Prim.Native.Nat.{ℕ, zero, suc, ◌≤◌, ◌<◌}
+use Prim.Native.Nat.{ℕ, ◌≤◌, ◌<◌}
 use native.Mathlib.Omega.{arith}
 use lib.Dec.{leb}
 use borrow.Author.Tests.{le-leb, lt-leb}
@@ -16,8 +16,7 @@ use Rattle.model.specs.Prog.{Position, open?, answer, on_some}
 use Rattle.model.specs.Operations.Steps.{is_some}
 use Rattle.model.specs.Calls.States.{State}
 use Rattle.model.specs.Calls.Calling.{all, first_of, work_fits, number_fits, screen}
-use Rattle.store.specs.Shows.{says, NumberIs}
-use Rattle.store.specs.declared.Number.TheVariants as store
+use Rattle.store.specs.Shows.{says}
 use Rattle.op.specs.declared.ready.Work.{Work}
 use Rattle.op.specs.declared.ready.Work.TheVariants as work
 use Rattle.op.specs.declared.ready.Number.{Number}

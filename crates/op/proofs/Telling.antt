@@ -1,6 +1,6 @@
 -- A question about the slices: by the store's test.
 -- Assumes nothing.
-use mathlib.Core.Path.{◌≡◌, refl}
+use mathlib.Core.Path.{refl}
 use Prim.Native.Nat.{ℕ}
 use Rattle.model.specs.Calls.States.{State}
 use Rattle.layout.specs.Store.{Store}

@@ -1,11 +1,11 @@
 -- What is told of a state: a kept path is shown as it reads, the limits are the store's words, and the rest is asked.
 -- Assumes nothing.
 use mathlib.Core.List.{List, [], ◌∷◌}
-use mathlib.Core.Option.{none, some}
+use mathlib.Core.Option.{some}
 use mathlib.Core.Path.{◌≡◌, refl, sym, ap, ◌∙◌, subst}
-use Prim.Native.Nat.{ℕ, ◌≤◌, ◌<◌}
+use Prim.Native.Nat.{ℕ, ◌≤◌}
 use native.Mathlib.Omega.{arith}
-use lib.ListN.{length, get_or, set}
+use lib.ListN.{length, set}
 use Rattle.text.specs.Utf8.{Bytes}
 use Rattle.path.specs.Path.{names, render}
 use Rattle.model.specs.Tree.{Path}

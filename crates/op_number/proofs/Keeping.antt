@@ -1,6 +1,6 @@
 -- The path kept at open, copied to the front of a working buffer: it is metadata's path there.
 -- Assumes nothing.
-use Rattle.std.proofs.Common.{◌≡◌, ℕ, ◌≤◌, ◌++◌, length, take, drop, sym, ap, ◌∙◌, subst}
+use Rattle.std.proofs.Common.{◌≡◌, ℕ, ◌≤◌, length, take, drop, sym, ap, ◌∙◌, subst}
 use mathlib.Core.Option.{Option, some}
 use lib.Seq.{paste, take-append_seam}
 use Rattle.text.specs.Utf8.{Bytes}

@@ -1,15 +1,15 @@
 -- Read and seek by a number that is open: its position and its bytes are told, so the program goes on with them, and what it comes to is
 -- the edit that moves the position.
 -- Assumes nothing.
-use Rattle.std.proofs.Common.{◌≡◌, ℕ, ◌+◌, ◌-◌, ◌^◌, ◌<◌, ◌≤◌, [], ◌∷◌, ◌++◌, length, take, drop, sym, refl, ap, ◌∙◌, subst, arith, length-drop, length-take, take_all}
+use Rattle.std.proofs.Common.{◌≡◌, ℕ, ◌+◌, ◌-◌, ◌^◌, ◌<◌, ◌≤◌, [], ◌∷◌, length, take, drop, sym, refl, ap, ◌∙◌, subst, arith, length-drop, length-take, take_all}
 use mathlib.Core.Option.{Option, some}
-use lib.Seq.{paste, take-length}
+use lib.Seq.{paste}
 use Rattle.text.specs.Utf8.{Bytes}
 use Rattle.model.specs.Prog.{World, Position, open?, held?, answer, seek, apply, Prog, ret, edits, ◌>>=◌, ◌>>◌, Out, done, refused, run}
 use Rattle.model.specs.Lookup.{text_or}
 use Rattle.model.specs.Operations.Numbers.{position_or, read_part, read_on, seek_from, seek_on}
 use Rattle.model.specs.Operations.Steps.{Reply, bytes_reply, number_reply}
-use Rattle.model.specs.Buffers.{in_front, row_numbers}
+use Rattle.model.specs.Buffers.{row_numbers}
 use Rattle.model.specs.Calls.States.{State, world_of, edited}
 use Rattle.model.proofs.Entries.{clash, some_inj}
 use Rattle.model.proofs.Running.{then, run_bind}

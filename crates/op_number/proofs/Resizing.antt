@@ -1,17 +1,16 @@
 -- Set length: what the state uses after it is an equation, so that room_for answers as the model does of the state that would be left.
 -- Assumes nothing.
 use mathlib.Core.Option.{Option, none, some}
-use Rattle.std.proofs.Common.{◌≡◌, ℕ, length, sym, refl, ap, ◌∙◌, subst, arith}
+use Rattle.std.proofs.Common.{◌≡◌, ℕ, length, refl, subst, arith}
 use Rattle.text.specs.Utf8.{Bytes}
 use Rattle.model.specs.Tree.{File, Open, file_of, open_of, resize}
-use Rattle.model.specs.Prog.{World, held?, answer, on_some, change_held, apply, Prog, ◌>>=◌, ◌>>◌, done, run}
+use Rattle.model.specs.Prog.{World, held?, answer, on_some, change_held, apply, ◌>>=◌, ◌>>◌, done, run}
 use Rattle.model.specs.Lookup.{text_or}
 use Rattle.model.specs.Operations.Numbers.{resized, set_length_on}
-use Rattle.model.specs.Operations.Steps.{Reply, plain_reply}
+use Rattle.model.specs.Operations.Steps.{plain_reply}
 use Rattle.model.specs.Calls.States.{State, world_of, state_of, edited}
 use Rattle.model.specs.Space.{room_for}
 use Rattle.model.specs.Shaped.{Shaped}
-use Rattle.model.specs.Buffers.{Outputs}
 use Rattle.model.proofs.Entries.{clash, some_inj}
 use Rattle.model.proofs.Space.After.{after-resize-held}
 use Rattle.model.proofs.Space.Room.{room_fits}

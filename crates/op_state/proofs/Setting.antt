@@ -5,7 +5,6 @@ use Prim.Native.Nat.{ℕ}
 use lib.ListN.{length, take}
 use Rattle.text.specs.Utf8.{Bytes}
 use Rattle.path.specs.Path.{names}
-use Rattle.model.specs.Tree.{Path}
 use Rattle.model.specs.Prog.{World, mask?, go, umask, apply, answer, ret, edits, Prog, ◌>>=◌, ◌>>◌, done, refused, run}
 use Rattle.model.specs.Operations.Steps as model
 use Rattle.model.specs.Operations.Steps.{Reply, plain_reply, number_reply}

@@ -12,7 +12,6 @@ use Rattle.path.specs.declared.answer.Formed.{Formed}
 use Rattle.path.specs.declared.answer.Formed.TheVariants.{Text, TooLong}
 use Rattle.model.specs.Tree.{Path}
 use Rattle.model.specs.Prog.{World, Out, refused, run}
-use Rattle.model.specs.Prog as prog
 use Rattle.model.specs.Lookup.{until_symlink, behind_link, ended, no_follow}
 use Rattle.model.specs.Lookup as model
 use Rattle.model.specs.Calls.States.{State}

@@ -1,6 +1,5 @@
 -- `release` meets its contract: the slots behind the last one in use are free.
 -- Assumes nothing.
-use borrow.Author.Rules.{rules}
 use Rattle.edit_room.proofs.Resizing.{released}
 use Rattle.edit_room.proofs.release.Goals as goal
 

@@ -1,7 +1,6 @@
 -- `reserve` meets its contract: nothing where the limits allow no slot more, else one free slot behind the last.
 -- Assumes nothing.
 use native.Mathlib.Omega.{arith}
-use borrow.Author.Rules.{rules}
 use Rattle.edit_room.proofs.Resizing.{reserved_none, reserved-one}
 use Rattle.edit_room.proofs.reserve.Goals as goal
 

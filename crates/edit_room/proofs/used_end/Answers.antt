@@ -1,9 +1,7 @@
 -- `used_end` meets its contract. The loop's invariant: the words from e on are 0.
 -- Assumes nothing.
-use mathlib.Core.Path.{◌≡◌}
-use Prim.Native.Nat.{ℕ, ◌≤◌}
 use native.Mathlib.Omega.{arith}
-use lib.ListN.{length, get_or, get_or-eq_default}
+use lib.ListN.{get_or-eq_default}
 use Rattle.edit_room.proofs.Ending.{zeros_one}
 use Rattle.edit_room.proofs.used_end.Goals as goal
 

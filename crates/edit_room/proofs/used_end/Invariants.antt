@@ -2,9 +2,7 @@
 -- Assumes nothing.
 use mathlib.Core.Path.{◌≡◌}
 use Prim.Native.Nat.{ℕ, ◌≤◌}
-use native.Mathlib.Omega.{arith}
-use lib.ListN.{length, get_or, get_or-eq_default}
-use Rattle.edit_room.proofs.Ending.{zeros_one}
+use lib.ListN.{length, get_or}
 use Rattle.edit_room.proofs.used_end.Given as goal
 
 abbrev pub invariant-loop-e : goal.invariant-loop-e

@@ -2,7 +2,6 @@
 -- Assumes nothing.
 use Rattle.op.proofs.Naming.{path-plain}
 use Rattle.op_back.proofs.Backs.{path-put}
-use borrow.Author.Rules.{rules}
 use Rattle.op_back.proofs.tell_here.Goals as goal
 
 pub put_path-requires : goal.put_path-requires

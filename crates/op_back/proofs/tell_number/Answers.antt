@@ -2,7 +2,6 @@
 -- Assumes nothing.
 use Rattle.layout.specs.Lent.{with_paths}
 use Rattle.op_back.proofs.Backs.{number-closed, number-plain, number_short, number-told}
-use borrow.Author.Rules.{rules}
 use Rattle.op_back.proofs.tell_number.Goals as goal
 
 pub put_path-r-requires : goal.put_path-r-requires

@@ -6,7 +6,6 @@ use lib.ListN.{length-set}
 use Rattle.layout.specs.Lent.{with_records, with_heads}
 use Rattle.op.specs.Telling.{short}
 use Rattle.op_back.proofs.Backs.{usage-told}
-use borrow.Author.Rules.{rules}
 use Rattle.op_back.proofs.tell_usage.Goals as goal
 
 pub returns-then-numbers-lt5 : goal.returns-then-numbers-lt5

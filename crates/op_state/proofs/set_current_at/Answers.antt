@@ -9,7 +9,6 @@ use Rattle.op.proofs.Leading.{led-front, led-kind}
 use Rattle.op.proofs.Writing.{links-written}
 use Rattle.op.proofs.Naming.{shown-named, short-front, cell_of}
 use Rattle.op_state.proofs.Setting.{current-refused, current-set}
-use borrow.Author.Rules.{rules}
 use Rattle.op_state.proofs.set_current_at.Goals as goal
 
 pub leads-requires : goal.leads-requires

@@ -4,7 +4,6 @@ use Rattle.op.proofs.Writing.{number-written}
 use Rattle.model.specs.Calls.States.{world_of}
 use Rattle.op.proofs.Doing.{does-done}
 use Rattle.op_state.proofs.Setting.{umask-run}
-use borrow.Author.Rules.{rules}
 use Rattle.op_state.proofs.set_umask_to.Goals as goal
 
 pub returns : goal.returns

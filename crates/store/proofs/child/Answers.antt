@@ -4,7 +4,6 @@ use mathlib.Core.Path.{refl}
 use Rattle.edit_room.specs.Extents.{trim}
 use Rattle.layout.specs.Lent.{◌∘◌, with_words, with_records, with_bytes}
 use Rattle.store.proofs.Looking.{child-told}
-use borrow.Author.Rules.{rules}
 use Rattle.store.proofs.child.Goals as goal
 
 pub child-requires : goal.child-requires

@@ -4,7 +4,6 @@ use mathlib.Core.Path.{refl, sym}
 use Rattle.edit_room.specs.Extents.{trim}
 use Rattle.layout.specs.Lent.{◌∘◌, with_words, with_records, with_heads, with_bytes}
 use Rattle.store.proofs.Asked.{contents-told}
-use borrow.Author.Rules.{rules}
 use Rattle.store.proofs.contents.Goals as goal
 
 pub entry_contents-requires : goal.entry_contents-requires

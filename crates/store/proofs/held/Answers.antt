@@ -5,7 +5,6 @@ use Rattle.model.specs.Prog.{open?, held?}
 use Rattle.edit_room.specs.Extents.{trim}
 use Rattle.layout.specs.Lent.{◌∘◌, with_words, with_heads, with_bytes}
 use Rattle.store.proofs.Asked.{told}
-use borrow.Author.Rules.{rules}
 use Rattle.store.proofs.held.Goals as goal
 
 pub held_bytes-requires : goal.held_bytes-requires

@@ -5,7 +5,6 @@ use Rattle.model.specs.Tree.{Path}
 use Rattle.ask_entry.specs.Reads.{PathIs}
 use Rattle.edit_room.specs.Extents.{trim}
 use Rattle.layout.specs.Lent.{◌∘◌, with_words, with_paths}
-use borrow.Author.Rules.{rules}
 use Rattle.store.proofs.here.Goals as goal
 
 pub returns : goal.returns

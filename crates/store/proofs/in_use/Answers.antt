@@ -4,7 +4,6 @@ use mathlib.Core.Path.{sym, ap}
 use native.Mathlib.Omega.{arith}
 use lib.ListN.{take, get_or, get_or-eq_default}
 use lib.Seq.{take_all, length-take-le}
-use borrow.Author.Rules.{rules}
 use Rattle.store.proofs.in_use.Goals as goal
 
 pub returns-then-words-le-EXTENT_AT : goal.returns-then-words-le-EXTENT_AT

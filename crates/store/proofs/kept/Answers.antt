@@ -5,7 +5,6 @@ use Rattle.model.specs.Prog.{open?}
 use Rattle.edit_room.specs.Extents.{trim}
 use Rattle.layout.specs.Lent.{◌∘◌, with_words, with_paths}
 use Rattle.store.proofs.Asked.{told}
-use borrow.Author.Rules.{rules}
 use Rattle.store.proofs.kept.Goals as goal
 
 pub returns : goal.returns

@@ -5,7 +5,6 @@ use Rattle.model.specs.Prog.{kind?}
 use Rattle.edit_room.specs.Extents.{trim}
 use Rattle.layout.specs.Lent.{◌∘◌, with_words, with_records, with_heads}
 use Rattle.store.proofs.Asked.{told}
-use borrow.Author.Rules.{rules}
 use Rattle.store.proofs.kind.Goals as goal
 
 pub returns : goal.returns

@@ -3,7 +3,6 @@
 use mathlib.Core.Path.{sym}
 use native.Mathlib.Omega.{arith}
 use Rattle.model.specs.Prog.{answer}
-use borrow.Author.Rules.{rules}
 use Rattle.store.proofs.mask.Goals as goal
 
 pub bounds-words-3 : goal.bounds-words-3

@@ -6,7 +6,6 @@ use Rattle.ask_entry.specs.Reads as reads
 use Rattle.edit_room.specs.Extents.{trim}
 use Rattle.layout.specs.Lent.{with_words}
 use Rattle.store.proofs.Asked.{closed-told, open_told}
-use borrow.Author.Rules.{rules}
 use Rattle.store.proofs.open.Goals as goal
 
 pub returns-in-Closed : goal.returns-in-Closed

@@ -4,7 +4,6 @@ use mathlib.Core.Path.{refl}
 use Rattle.edit_room.specs.Extents.{trim}
 use Rattle.layout.specs.Lent.{with_words}
 use Rattle.store.proofs.Looking.{root_told}
-use borrow.Author.Rules.{rules}
 use Rattle.store.proofs.root.Goals as goal
 
 pub returns : goal.returns

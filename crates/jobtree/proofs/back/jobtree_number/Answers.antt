@@ -3,13 +3,12 @@
 use mathlib.Core.Path.{refl, sym}
 use lib.Seq.{length-take-le}
 use borrow.Author.Tests.{not-true, not-false}
-use Rattle.layout.specs.Store.{Store, lent}
+use Rattle.layout.specs.Store.{lent}
 use Rattle.layout.specs.Lawful.{Passes}
 use Rattle.layout.specs.Answers.{read_back}
 use Rattle.lawful_limits.proofs.Settling.{told}
 use Rattle.op.proofs.Cutting.{cut, shows-cut}
 use Rattle.op.proofs.Telling.{told-broken, told-passing}
-use borrow.Author.Rules.{rules}
 use Rattle.jobtree.proofs.back.jobtree_number.Goals.{Else-not-store_ok}
 use Rattle.jobtree.proofs.back.jobtree_number.Goals as goal
 

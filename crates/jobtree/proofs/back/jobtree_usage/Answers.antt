@@ -4,13 +4,12 @@ use mathlib.Core.Path.{refl, sym}
 use native.Mathlib.Omega.{arith}
 use lib.Seq.{length-take-le}
 use borrow.Author.Tests.{not-true, not-false}
-use Rattle.layout.specs.Store.{Store, lent, most, slots_for}
+use Rattle.layout.specs.Store.{lent, most, slots_for}
 use Rattle.layout.specs.Lawful.{Passes}
 use Rattle.layout.specs.Answers.{read_back}
 use Rattle.lawful_limits.proofs.Settling.{told}
 use Rattle.op.proofs.Cutting.{cut, shows-cut, limits}
 use Rattle.op.proofs.Telling.{told-broken, told-passing}
-use borrow.Author.Rules.{rules}
 use Rattle.jobtree.proofs.back.jobtree_usage.Goals.{Else-not-store_ok}
 use Rattle.jobtree.proofs.back.jobtree_usage.Goals as goal
 

@@ -4,7 +4,6 @@ use mathlib.Core.Path.{ap, ◌∙◌}
 use Prim.Native.Nat.{ℕ}
 use lib.ListN.{replicate}
 use Rattle.op.proofs.Calling.{answers}
-use borrow.Author.Rules.{rules}
 use Rattle.jobtree.proofs.look.jobtree_list.Goals as goal
 
 pub returns : goal.returns

@@ -5,13 +5,12 @@ use native.Mathlib.Omega.{arith}
 use lib.ListN.{length}
 use lib.Seq.{length-take-le}
 use Rattle.model.specs.Calls.Calling as op
-use Rattle.layout.specs.Store.{Store, lent, most, room, slots_for}
+use Rattle.layout.specs.Store.{lent, most, room, slots_for}
 use Rattle.layout.specs.Lawful.{Passes}
-use Rattle.layout.specs.Answers.{Lent, read_back}
+use Rattle.layout.specs.Answers.{read_back}
 use Rattle.op.specs.Lending.{call_with, in_bytes}
 use Rattle.op.proofs.Cutting.{cut, shows-cut, limits}
 use Rattle.op.proofs.Calling.{read-takes, began, path-there, done_refused, done-asked}
-use borrow.Author.Rules.{rules}
 use Rattle.jobtree.proofs.look.read.Goals.{In-At}
 use Rattle.jobtree.proofs.look.read.Goals as goal
 

@@ -3,13 +3,12 @@
 use mathlib.Core.Path.{refl, sym, ◌∙◌}
 use native.Mathlib.Omega.{arith}
 use lib.Seq.{length-take-le}
-use Rattle.layout.specs.Store.{Store, lent, most, room, slots_for}
+use Rattle.layout.specs.Store.{lent, most, room, slots_for}
 use Rattle.layout.specs.Lawful.{Passes}
 use Rattle.layout.specs.Answers.{read_back}
 use Rattle.op.proofs.Cutting.{cut, shows-cut, limits, as_was, put_back, Returned, sized-kept}
 use Rattle.op.proofs.Calling.{answers}
 use Rattle.op.proofs.Numbering.{close-numbers, tested-passes, tested-open, number-refused, number-done}
-use borrow.Author.Rules.{rules}
 use Rattle.jobtree.proofs.number.jobtree_close.Goals.{Else-r-ne0}
 use Rattle.jobtree.proofs.number.jobtree_close.Goals as goal
 

@@ -9,14 +9,13 @@ use lib.Seq.{length-take-le}
 use mir.Syntax.{w64}
 use mir.ValLaws.{to_z-of_z}
 use Rattle.op_number.proofs.Changing.{same_times}
-use Rattle.layout.specs.Store.{Store, lent, most, slots_for}
+use Rattle.layout.specs.Store.{lent, most, slots_for}
 use Rattle.layout.specs.Lawful.{Passes}
 use Rattle.layout.specs.Answers.{read_back}
 use Rattle.layout.proofs.Sizes.{sized-cut}
 use Rattle.op.proofs.Cutting.{cut, shows-cut, limits, as_was, put_back, Returned}
 use Rattle.op.proofs.Calling.{answers}
 use Rattle.op.proofs.Numbering.{times-numbers, tested-passes, tested-open, number-refused, number-done}
-use borrow.Author.Rules.{rules}
 use Rattle.jobtree.proofs.number.jobtree_set_times_number.Goals.{Else-r-ne0}
 use Rattle.jobtree.proofs.number.jobtree_set_times_number.Goals as goal
 

@@ -4,12 +4,11 @@ use mathlib.Core.Path.{refl, sym}
 use Prim.Native.Nat.{◌*◌}
 use native.Mathlib.Omega.{arith}
 use lib.Seq.{length-take-le}
-use Rattle.layout.specs.Store.{Store, lent, most, room, slots_for}
+use Rattle.layout.specs.Store.{lent, most, room, slots_for}
 use Rattle.layout.specs.Lawful.{Passes}
 use Rattle.layout.specs.Answers.{read_back}
 use Rattle.op.proofs.Cutting.{cut, shows-cut, limits, not_written}
 use Rattle.op.proofs.Numbering.{metadata-numbers, tested-passes, tested-open, tested-room, number-refused, number-done}
-use borrow.Author.Rules.{rules}
 use Rattle.jobtree.proofs.number.metadata_number.Goals.{Else-r-ne0}
 use Rattle.jobtree.proofs.number.metadata_number.Goals as goal
 

@@ -4,7 +4,6 @@ use mathlib.Core.Path.{ap, ◌∙◌}
 use Prim.Native.Nat.{ℕ}
 use lib.ListN.{replicate}
 use Rattle.op.proofs.Calling.{answers}
-use borrow.Author.Rules.{rules}
 use Rattle.jobtree.proofs.state.jobtree_set_current_dir.Goals as goal
 
 pub returns : goal.returns

@@ -4,13 +4,12 @@ use mathlib.Core.Path.{refl, sym, ◌∙◌}
 use native.Mathlib.Omega.{arith}
 use lib.Seq.{length-take-le}
 use Rattle.model.specs.Calls.Calling as op
-use Rattle.layout.specs.Store.{Store, lent, most, room, slots_for}
+use Rattle.layout.specs.Store.{lent, most, room, slots_for}
 use Rattle.layout.specs.Lawful.{Passes}
-use Rattle.layout.specs.Answers.{Lent, read_back}
+use Rattle.layout.specs.Answers.{read_back}
 use Rattle.op.specs.Lending.{call_with, in_links}
 use Rattle.op.proofs.Cutting.{cut, shows-cut, limits, as_was, put_back, Returned, sized-kept}
 use Rattle.op.proofs.Calling.{current-takes, began, path-there, done_refused, done_at}
-use borrow.Author.Rules.{rules}
 use Rattle.jobtree.proofs.state.set_current_dir.Goals.{In-At}
 use Rattle.jobtree.proofs.state.set_current_dir.Goals as goal
 

@@ -1,7 +1,6 @@
 -- `absolute_in` meets its contract: the current directory's path is what the store keeps of it.
 -- Assumes nothing.
 use Rattle.op.proofs.Forming.{absolute_is}
-use borrow.Author.Rules.{rules}
 use Rattle.op.proofs.absolute.absolute_in.Goals as goal
 
 pub returns : goal.returns

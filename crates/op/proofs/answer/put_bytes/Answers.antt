@@ -1,10 +1,8 @@
 -- `put_bytes` meets its contract: a copy to the front, where there is room.
 -- Assumes nothing.
 use mathlib.Core.Path.{refl, ◌∙◌}
-use native.Mathlib.Omega.{arith}
 use Rattle.op.specs.Lending.{put, short}
 use Rattle.op.proofs.Writing.{over_front}
-use borrow.Author.Rules.{rules}
 use Rattle.op.proofs.answer.put_bytes.Goals as goal
 
 pub returns-then-out-s : goal.returns-then-out-s

@@ -4,7 +4,6 @@ use native.Mathlib.Omega.{arith}
 use Rattle.model.specs.Calls.States.{world_of}
 use Rattle.layout.specs.Lent.{with_bytes}
 use Rattle.op.proofs.Leading.{links-few, asked_whole, same_looks}
-use borrow.Author.Rules.{rules}
 use Rattle.op.proofs.at.lookup.Goals as goal
 
 pub links-bound-requires : goal.links-bound-requires

@@ -1,9 +1,7 @@
 -- `no_follow` meets its contract: nothing is hidden.
 -- Assumes nothing.
-use native.Mathlib.Omega.{arith}
 use Rattle.model.specs.Calls.States.{world_of}
 use Rattle.op.proofs.Leading.{asked_whole}
-use borrow.Author.Rules.{rules}
 use Rattle.op.proofs.at.no_follow.Goals as goal
 
 pub returns : goal.returns

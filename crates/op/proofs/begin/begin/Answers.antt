@@ -3,13 +3,12 @@
 use mathlib.Core.Path.{◌≡◌, sym}
 use native.Mathlib.Omega.{arith}
 use lib.Seq.{length-take-le}
-use Rattle.layout.specs.Store.{Store, lent}
+use Rattle.layout.specs.Store.{lent}
 use Rattle.layout.specs.Lawful.{Passes}
 use Rattle.layout.specs.Answers.{read_back}
 use Rattle.op.specs.Beginning.{screened, formed}
 use Rattle.op.proofs.Cutting.{cut, shows-cut}
 use Rattle.op.proofs.Beginning.{enough, begin-refused, begin-passes}
-use borrow.Author.Rules.{rules}
 use Rattle.op.proofs.begin.begin.Goals.{Else-r-ne0}
 use Rattle.op.proofs.begin.begin.Goals as goal
 

@@ -1,8 +1,6 @@
 -- `form` meets its contract, by how the path is taken.
 -- Assumes nothing.
-use borrow.Author.Rules.{rules}
 use Rattle.op.proofs.Beginning.{given_none, as_any, as_named}
-use borrow.Author.Rules.{rules}
 use Rattle.op.proofs.begin.form.Goals as goal
 
 pub returns-then-path-eq0 : goal.returns-then-path-eq0

@@ -2,7 +2,6 @@
 -- Assumes nothing.
 use native.Mathlib.Omega.{arith}
 use Rattle.op.proofs.Beginning.{stops_at, stops-long}
-use borrow.Author.Rules.{rules}
 use Rattle.op.proofs.begin.made.Goals as goal
 
 pub returns-in-Text : goal.returns-in-Text

@@ -1,13 +1,9 @@
 -- `clear` meets its contract. The loop's invariant: zeros from the left, and what was there behind them.
 -- Assumes nothing.
-use mathlib.Core.List.{◌++◌, append-nil}
-use mathlib.Core.Path.{◌≡◌, refl, sym, ap, ◌∙◌}
-use Prim.Native.Nat.{ℕ, ◌-◌, ◌≤◌}
-use native.Mathlib.Numerals.{add-one}
-use native.Mathlib.Omega.{arith}
-use lib.ListN.{length, drop, replicate, set, length-set}
-use lib.Seq.{drop-length}
-use Rattle.setup.proofs.Zeros.{fill-turn}
+use mathlib.Core.List.{◌++◌}
+use mathlib.Core.Path.{◌≡◌}
+use Prim.Native.Nat.{◌-◌, ◌≤◌}
+use lib.ListN.{length, drop, replicate}
 use Rattle.op.proofs.clear.clear.Given as goal
 
 abbrev pub invariant-loop-i : goal.invariant-loop-i

@@ -3,7 +3,6 @@
 use mathlib.Core.Path.{subst}
 use Rattle.store.specs.Shows.{NumberIs}
 use Rattle.op.proofs.Screening.{open-shut, open_there}
-use borrow.Author.Rules.{rules}
 use Rattle.op.proofs.ready.is_open.Goals as goal
 
 pub returns-in-Closed : goal.returns-in-Closed

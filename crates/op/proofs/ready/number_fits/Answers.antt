@@ -1,7 +1,6 @@
 -- `number_fits` meets its contract: a number that is given is below 32, and free or open.
 -- Assumes nothing.
 use Rattle.op.proofs.Screening.{number_none, free-above, free-fits, opened-above, opened-fits}
-use borrow.Author.Rules.{rules}
 use Rattle.op.proofs.ready.number_fits.Goals as goal
 
 pub returns-then-n : goal.returns-then-n

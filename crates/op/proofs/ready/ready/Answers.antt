@@ -4,13 +4,12 @@ use mathlib.Core.Path.{refl, sym}
 use native.Mathlib.Omega.{arith}
 use lib.Seq.{length-take-le}
 use borrow.Author.Tests.{not-true, not-false}
-use Rattle.layout.specs.Store.{Store, lent}
+use Rattle.layout.specs.Store.{lent}
 use Rattle.layout.specs.Lawful.{Passes}
 use Rattle.layout.specs.Answers.{read_back}
 use Rattle.lawful_limits.proofs.Settling.{told}
 use Rattle.op.specs.Testing.{broken, passing}
 use Rattle.op.proofs.Cutting.{cut, shows-cut}
-use borrow.Author.Rules.{rules}
 use Rattle.op.proofs.ready.ready.Goals.{Else-not-store_ok}
 use Rattle.op.proofs.ready.ready.Goals as goal
 

@@ -3,7 +3,6 @@
 use mathlib.Core.Path.{sym, ◌∙◌}
 use borrow.Author.Tests.{not-true, not-false}
 use Rattle.op.proofs.Screening.{screen-short, screen-text, screen-number, screen-passes}
-use borrow.Author.Rules.{rules}
 use Rattle.op.proofs.ready.screened.Goals as goal
 
 pub returns-then-not-work_fits : goal.returns-then-not-work_fits

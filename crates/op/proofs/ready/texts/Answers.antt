@@ -3,7 +3,6 @@
 use mathlib.Core.Path.{sym, ◌∙◌}
 use borrow.Author.Tests.{not-true, not-false}
 use Rattle.op.proofs.Screening.{first_bad, second-bad, first_long, second-long, texts-pass}
-use borrow.Author.Rules.{rules}
 use Rattle.op.proofs.ready.texts.Goals as goal
 
 pub returns-then-not-text_ok : goal.returns-then-not-text_ok

@@ -1,7 +1,6 @@
 -- `work_fits` meets its contract.
 -- Assumes nothing.
-use Rattle.op.proofs.Screening.{work_none, work-short, work-second}
-use borrow.Author.Rules.{rules}
+use Rattle.op.proofs.Screening.{work-short, work-second}
 use Rattle.op.proofs.ready.work_fits.Goals as goal
 
 pub returns-then-first-lt1024 : goal.returns-then-first-lt1024

@@ -6,7 +6,6 @@ use lib.Seq.{length-take-le}
 use Rattle.op.proofs.Doing.{does-refused}
 use Rattle.op.proofs.Leading.{led-count}
 use Rattle.op_look.proofs.Reading.{bytes-refused, bytes-told, canonical-refused, canonical_there, led-plain, led-fits}
-use borrow.Author.Rules.{rules}
 use Rattle.op_look.proofs.contents.canonicalize_at.Goals as goal
 
 -- the buffer has room for the path that was led to

@@ -1,7 +1,6 @@
 -- `put_path` meets its contract: an empty text is the root, any other is the path as it is shown.
 -- Assumes nothing.
 use Rattle.op_look.proofs.Reading.{root-shown, named-shown, put_same}
-use borrow.Author.Rules.{rules}
 use Rattle.op_look.proofs.contents.put_path.Goals as goal
 
 pub returns-then-path-eq0 : goal.returns-then-path-eq0

@@ -5,7 +5,6 @@ use native.Mathlib.Omega.{arith}
 use lib.ListN.{length}
 use Rattle.op.proofs.Doing.{does-refused}
 use Rattle.op_look.proofs.Reading.{bytes-refused, bytes-told, look-stands, look-count, read-refused, read-no-name, read-missing, read-root, read-wrong, read-file}
-use borrow.Author.Rules.{rules}
 use Rattle.op_look.proofs.contents.read_at.Goals.{After-lookup}
 use Rattle.op_look.proofs.contents.read_at.Goals as goal
 

@@ -3,7 +3,6 @@
 use Rattle.op.proofs.Doing.{does-refused}
 use Rattle.op_look.proofs.Reading.{bytes-refused, bytes-told}
 use Rattle.op_look.proofs.Ending.{link-stands, target-refused, target-missing, target_found, target-link}
-use borrow.Author.Rules.{rules}
 use Rattle.op_look.proofs.contents.read_link_at.Goals as goal
 
 pub returns-then-r-ne0 : goal.returns-then-r-ne0

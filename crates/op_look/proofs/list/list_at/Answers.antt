@@ -1,7 +1,6 @@
 -- `list_at` meets its contract, by what the path leads to, and whether there is room for the names and the records.
 -- Assumes nothing.
 use native.Mathlib.Omega.{arith}
-use borrow.Author.Rules.{rules}
 use Rattle.layout.specs.Store.{Store, lent}
 use Rattle.store.specs.Shows.{SomeEntry}
 use Rattle.op.proofs.Doing.{does-refused, does-told}

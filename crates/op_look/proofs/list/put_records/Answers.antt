@@ -1,12 +1,10 @@
 -- `put_records` meets its contract. The loop's invariant: in every state that a store with the slices shows, the records of the entries that
 -- were given out stand in front of the row, and the others are left. The measure is the room behind them.
 -- Assumes nothing.
-use Prim.Native.Nat.{◌+◌, ◌-◌, ◌≤◌}
+use Prim.Native.Nat.{◌+◌, ◌≤◌}
 use native.Mathlib.Omega.{arith}
-use borrow.Author.Rules.{rules}
 use lib.ListN.{length}
-use Rattle.layout.specs.Store.{Store}
-use Rattle.op_look.proofs.Listing.{four, Held, held, Filling, fill_start, fill_end, fill-room, fill-entry, fill-size, fill-next}
+use Rattle.op_look.proofs.Listing.{four, Held, held, fill_start, fill_end, fill-room, fill-entry, fill-size, fill-next}
 use Rattle.op_look.proofs.list.put_records.Goals.{At-loop-step, In-Entry}
 use Rattle.op_look.proofs.list.put_records.Goals as goal
 

@@ -4,7 +4,6 @@ use Rattle.layout.specs.Lent.{with_times, with_bytes}
 use Rattle.op.proofs.Doing.{does-refused}
 use Rattle.op.proofs.Leading.{led-stands, led-count}
 use Rattle.op_look.proofs.Showing.{row-refused, row-shown, metadata-refused, metadata_there}
-use borrow.Author.Rules.{rules}
 use Rattle.op_look.proofs.metadata.metadata_at.Goals as goal
 
 pub leads-requires : goal.leads-requires

@@ -4,7 +4,6 @@ use mathlib.Core.Path.{refl}
 use native.Mathlib.Omega.{arith}
 use Rattle.op_look.specs.Rows.{put, short}
 use Rattle.op_look.proofs.Showing.{size_low}
-use borrow.Author.Rules.{rules}
 use Rattle.op_look.proofs.metadata.show.Goals as goal
 
 pub returns-then-rows-lt-NUMBERS : goal.returns-then-rows-lt-NUMBERS

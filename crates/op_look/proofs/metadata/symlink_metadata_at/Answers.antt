@@ -4,7 +4,6 @@ use Rattle.layout.specs.Lent.{with_times, with_bytes}
 use Rattle.op.proofs.Doing.{does-refused}
 use Rattle.op_look.proofs.Showing.{row-refused, row-shown}
 use Rattle.op_look.proofs.Ending.{found-stands, link-stands, symlink-refused, symlink-missing, symlink-found, symlink-link}
-use borrow.Author.Rules.{rules}
 use Rattle.op_look.proofs.metadata.symlink_metadata_at.Goals as goal
 
 pub no_follow-w-requires : goal.no_follow-w-requires

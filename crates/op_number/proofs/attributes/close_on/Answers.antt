@@ -1,7 +1,6 @@
 -- `close_on` meets its contract: one edit.
 -- Assumes nothing.
 use Rattle.op_number.proofs.Changing.{does-closed}
-use Rattle.std.proofs.Common.{rules}
 use Rattle.op_number.proofs.attributes.close_on.Goals as goal
 
 pub returns : goal.returns

@@ -1,6 +1,6 @@
 -- `set_length_on` meets its contract: there is no room, or one edit.
 -- Assumes nothing.
-use Rattle.std.proofs.Common.{sym, ◌∙◌, rules}
+use Rattle.std.proofs.Common.{sym, ◌∙◌}
 use Rattle.layout.specs.Lent.{with_records, with_bytes}
 use Rattle.op_number.proofs.Resizing.{may-resize, does-resized, resize-full}
 use Rattle.op_number.proofs.attributes.set_length_on.Goals as goal

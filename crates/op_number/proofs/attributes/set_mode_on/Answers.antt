@@ -1,7 +1,6 @@
 -- `set_mode_on` meets its contract: one edit.
 -- Assumes nothing.
 use Rattle.op_number.proofs.Changing.{does-mode}
-use Rattle.std.proofs.Common.{rules}
 use Rattle.op_number.proofs.attributes.set_mode_on.Goals as goal
 
 pub returns : goal.returns

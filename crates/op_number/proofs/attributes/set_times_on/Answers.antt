@@ -1,6 +1,6 @@
 -- `set_times_on` meets its contract: one edit, with each time by its flag.
 -- Assumes nothing.
-use Rattle.std.proofs.Common.{w64, rules}
+use Rattle.std.proofs.Common.{w64}
 use mir.ValLaws.{to_z-of_z}
 use Rattle.op_number.proofs.Changing.{does-times}
 use Rattle.op_number.proofs.attributes.set_times_on.Goals as goal

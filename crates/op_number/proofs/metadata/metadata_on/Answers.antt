@@ -1,6 +1,6 @@
 -- `metadata_on` meets its contract: the kept path stands in front of the working buffer, and metadata is asked there.
 -- Assumes nothing.
-use Rattle.std.proofs.Common.{refl, arith, rules}
+use Rattle.std.proofs.Common.{refl, arith}
 use Rattle.model.specs.Calls.States.{world_of}
 use Rattle.edit_state.proofs.Cells.{cell-fits}
 use Rattle.layout.specs.Lent.{with_records, with_heads, with_times, with_paths, with_bytes}

@@ -1,7 +1,6 @@
 -- `behind` meets its contract: the position is behind the end, or so many bytes are not there, or they are.
 -- Assumes nothing.
 use Rattle.op_number.proofs.Reading.{behind-end, behind_all, behind_some}
-use Rattle.std.proofs.Common.{rules}
 use Rattle.op_number.proofs.position.behind.Goals as goal
 
 pub returns-then-s-pos : goal.returns-then-s-pos

@@ -1,6 +1,6 @@
 -- `from_end` meets its contract: the sum is 2^63 or more, or below 0, or a position.
 -- Assumes nothing.
-use Rattle.std.proofs.Common.{arith, rules}
+use Rattle.std.proofs.Common.{arith}
 use Rattle.op_number.proofs.Seeking.{end_at, end_below, end-above, sum_up, sum-down}
 use Rattle.op_number.proofs.position.from_end.Goals as goal
 

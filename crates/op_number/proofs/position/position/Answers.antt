@@ -1,7 +1,6 @@
 -- `position` meets its contract, by what the store says of the number.
 -- Assumes nothing.
 use Rattle.op_number.proofs.Reading.{position-open, position-closed}
-use Rattle.std.proofs.Common.{rules}
 use Rattle.op_number.proofs.position.position.Goals as goal
 
 pub returns-in-Open : goal.returns-in-Open

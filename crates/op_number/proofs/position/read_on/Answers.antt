@@ -1,6 +1,6 @@
 -- `read_on` meets its contract: the bytes behind the position stand in front, and the number is moved behind them.
 -- Assumes nothing.
-use Rattle.std.proofs.Common.{length, arith, rules}
+use Rattle.std.proofs.Common.{length, arith}
 use Rattle.layout.specs.Lent.{with_heads, with_bytes}
 use Rattle.store_edit.proofs.Entering.{open_at}
 use Rattle.op_number.proofs.Reading.{behind-low, behind-few, does-read}

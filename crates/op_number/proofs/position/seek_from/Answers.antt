@@ -1,6 +1,6 @@
 -- `seek_from` meets its contract, by the origin.
 -- Assumes nothing.
-use Rattle.std.proofs.Common.{◌∙◌, rules}
+use Rattle.std.proofs.Common.{◌∙◌}
 use Rattle.op_number.proofs.Seeking.{seek-start, seek-here, seek-end}
 use Rattle.op_number.proofs.position.seek_from.Goals as goal
 

@@ -3,7 +3,6 @@
 use Rattle.layout.specs.Lent.{with_heads, with_bytes}
 use Rattle.store_edit.proofs.Entering.{open_at}
 use Rattle.op_number.proofs.Reading.{does-sought, does-nowhere}
-use Rattle.std.proofs.Common.{rules}
 use Rattle.op_number.proofs.position.seek_on.Goals as goal
 
 pub seek-requires : goal.seek-requires

@@ -5,7 +5,6 @@ use lib.ListN.{length}
 use Rattle.edit_room.specs.Extents.{trim}
 use Rattle.layout.specs.Lent.{◌∘◌, with_words, with_records}
 use Rattle.store.proofs.Listed.{placed, listed-told}
-use borrow.Author.Rules.{rules}
 use Rattle.store.proofs.listing.count.Goals as goal
 
 pub entry_count-requires : goal.entry_count-requires

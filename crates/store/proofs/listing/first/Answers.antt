@@ -4,7 +4,6 @@ use mathlib.Core.Path.{refl}
 use Rattle.edit_room.specs.Extents.{trim}
 use Rattle.layout.specs.Lent.{◌∘◌, with_words, with_records}
 use Rattle.store.proofs.Listed.{placed, first_told}
-use borrow.Author.Rules.{rules}
 use Rattle.store.proofs.listing.first.Goals as goal
 
 pub first-requires : goal.first-requires

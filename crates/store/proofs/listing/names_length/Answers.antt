@@ -9,7 +9,6 @@ use Rattle.model.specs.Operations.Shows.{names_text}
 use Rattle.edit_room.specs.Extents.{trim}
 use Rattle.layout.specs.Lent.{◌∘◌, with_words, with_records}
 use Rattle.store.proofs.Listed.{placed, listed-told}
-use borrow.Author.Rules.{rules}
 use Rattle.store.proofs.listing.names_length.Goals as goal
 
 pub names_length-requires : goal.names_length-requires

@@ -6,7 +6,6 @@ use Rattle.edit_room.specs.Extents.{trim}
 use Rattle.layout.specs.Lent.{◌∘◌, with_words, with_records}
 use Rattle.store.specs.Listing.{rest}
 use Rattle.store.proofs.Listed.{placed, step-told}
-use borrow.Author.Rules.{rules}
 use Rattle.store.proofs.listing.next.Goals as goal
 
 pub next-requires : goal.next-requires

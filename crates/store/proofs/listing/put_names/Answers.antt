@@ -9,7 +9,6 @@ use Rattle.model.specs.Buffers.{in_front}
 use Rattle.edit_room.specs.Extents.{trim}
 use Rattle.layout.specs.Lent.{◌∘◌, with_words, with_records, with_bytes}
 use Rattle.store.proofs.Listed.{roomy, listed-told}
-use borrow.Author.Rules.{rules}
 use Rattle.store.proofs.listing.put_names.Goals as goal
 
 pub put_names-requires : goal.put_names-requires

@@ -2,7 +2,6 @@
 -- Assumes nothing.
 use Rattle.layout.specs.Lent.{with_words}
 use Rattle.store.proofs.Spaced.{entries-told}
-use borrow.Author.Rules.{rules}
 use Rattle.store.proofs.space.entries.Goals as goal
 
 pub returns : goal.returns

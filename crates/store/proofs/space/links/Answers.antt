@@ -4,7 +4,6 @@ use mathlib.Core.Path.{refl, sym, ◌∙◌}
 use Rattle.edit_room.specs.Extents.{trim}
 use Rattle.layout.specs.Lent.{◌∘◌, with_words, with_records, with_heads}
 use Rattle.store.proofs.Spaced.{links-told}
-use borrow.Author.Rules.{rules}
 use Rattle.store.proofs.space.links.Goals as goal
 
 pub links_in-requires : goal.links_in-requires

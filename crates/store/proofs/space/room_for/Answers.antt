@@ -4,7 +4,6 @@
 use native.Mathlib.Omega.{arith}
 use Rattle.layout.specs.Lent.{◌∘◌, with_words, with_records, with_heads}
 use Rattle.store.proofs.Spaced.{bytes_fit_lem, no-entries, no_bytes_lem, has_room_lem}
-use borrow.Author.Rules.{rules}
 use Rattle.store.proofs.space.room_for.Goals as goal
 
 pub returns-then-words-more : goal.returns-then-words-more

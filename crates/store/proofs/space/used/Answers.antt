@@ -4,7 +4,6 @@ use mathlib.Core.Path.{refl, sym, ◌∙◌}
 use Rattle.edit_room.specs.Extents.{trim}
 use Rattle.layout.specs.Lent.{◌∘◌, with_words, with_records, with_heads}
 use Rattle.store.proofs.Spaced.{used-told}
-use borrow.Author.Rules.{rules}
 use Rattle.store.proofs.space.used.Goals as goal
 
 pub bytes_used-requires : goal.bytes_used-requires

@@ -6,7 +6,6 @@ use mathlib.Core.Path.{refl, sym, ap}
 use Rattle.edit_room.specs.Extents.{trim}
 use Rattle.layout.specs.Lent.{◌∘◌, with_words, with_records, with_heads}
 use Rattle.store.proofs.Spaced.{weight-told}
-use borrow.Author.Rules.{rules}
 use Rattle.store.proofs.space.weigh.Goals as goal
 
 pub weigh-w-requires : goal.weigh-w-requires

@@ -11,7 +11,6 @@ use Rattle.edit_room.proofs.Parting.{part_within}
 use Rattle.store_edit.proofs.Carrying.{shows_whole, shows-resized, shows-released, roomy_of}
 use Rattle.store_edit.proofs.Inserting.{insert-may, same_inserted, stands-new}
 use Rattle.store_edit.proofs.Resizing.{stands-released}
-use borrow.Author.Rules.{rules}
 use Rattle.store_edit.proofs.entry.insert.Goals as goal
 
 pub reserve-requires : goal.reserve-requires

@@ -6,7 +6,6 @@ use mir.Syntax.{w64}
 use mir.ValLaws.{to_z-of_z}
 use Rattle.layout.specs.Lent.{◌∘◌, with_words, with_records, with_heads, with_times, with_bytes}
 use Rattle.store_edit.proofs.Inserting.{may_at, makes_at}
-use borrow.Author.Rules.{rules}
 use Rattle.store_edit.proofs.entry.make.Goals as goal
 
 pub insert-requires : goal.insert-requires

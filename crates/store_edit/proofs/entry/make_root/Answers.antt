@@ -12,7 +12,6 @@ use Rattle.edit_room.proofs.Parting.{part_within}
 use Rattle.store_edit.proofs.Carrying.{shows_whole, shows-resized, shows-released, roomy_of}
 use Rattle.store_edit.proofs.Resizing.{stands-released}
 use Rattle.store_edit.proofs.Rooting.{root-may, stands-root, same_rooted}
-use borrow.Author.Rules.{rules}
 use Rattle.store_edit.proofs.entry.make_root.Goals as goal
 
 pub reserve-requires : goal.reserve-requires

@@ -10,7 +10,6 @@ use Rattle.model.specs.Calls.States.{edited}
 use Rattle.layout.specs.Lent.{◌∘◌, with_words, with_records, with_heads, with_times, with_bytes}
 use Rattle.store_edit.proofs.Inserting.{may_at, makes_at}
 use Rattle.store_edit.proofs.Replacing.{replace-may, replaced}
-use borrow.Author.Rules.{rules}
 use Rattle.store_edit.proofs.entry.relink.Goals as goal
 
 pub remove-requires : goal.remove-requires

@@ -7,7 +7,6 @@ use Rattle.layout.specs.Lent.{◌∘◌, with_words, with_records, with_heads, w
 use Rattle.edit_room.specs.Extents.{trim}
 use Rattle.store_edit.proofs.Carrying.{shows_whole, shows-released, roomy_of}
 use Rattle.store_edit.proofs.Removing.{remove-block, removed-released}
-use borrow.Author.Rules.{rules}
 use Rattle.store_edit.proofs.entry.remove.Goals as goal
 
 pub remove_entry-requires : goal.remove_entry-requires

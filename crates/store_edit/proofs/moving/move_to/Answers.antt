@@ -7,7 +7,6 @@ use Rattle.layout.specs.Lent.{◌∘◌, with_words, with_records, with_bytes}
 use Rattle.edit_room.specs.Extents.{trim}
 use Rattle.store_edit.proofs.Carrying.{shows_same}
 use Rattle.store_edit.proofs.Ways.{move-way, way-spells}
-use borrow.Author.Rules.{rules}
 use Rattle.store_edit.proofs.moving.move_to.Goals as goal
 
 pub move_entry-requires : goal.move_entry-requires

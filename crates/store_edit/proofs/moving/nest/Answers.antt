@@ -8,7 +8,6 @@ use Rattle.layout.specs.Lent.{◌∘◌, with_words, with_records, with_heads, w
 use Rattle.store_edit.proofs.Carrying.{shows-resized, shows-released, roomy_of}
 use Rattle.store_edit.proofs.Nesting.{nest-more, may-time, left_time}
 use Rattle.store_edit.proofs.Resizing.{stands-resized, stands-released}
-use borrow.Author.Rules.{rules}
 use Rattle.store_edit.proofs.moving.nest.Goals as goal
 
 pub reserve-requires : goal.reserve-requires

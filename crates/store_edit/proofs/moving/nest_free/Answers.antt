@@ -14,7 +14,6 @@ use Rattle.layout.specs.Lent.{◌∘◌, with_words, with_records, with_heads, w
 use Rattle.edit_room.specs.Extents.{trim}
 use Rattle.store_edit.proofs.Carrying.{shows_whole}
 use Rattle.store_edit.proofs.Nesting.{next_low, may-nest, stands-nested, same_time}
-use borrow.Author.Rules.{rules}
 use Rattle.store_edit.proofs.moving.nest_free.Goals as goal
 
 pub overflow_add-off : goal.overflow_add-off

@@ -9,7 +9,6 @@ use Rattle.layout.specs.Lent.{◌∘◌, with_words, with_heads}
 use Rattle.edit_room.specs.Extents.{trim}
 use Rattle.store_edit.proofs.Carrying.{shows_whole}
 use Rattle.store_edit.proofs.Entering.{open_at}
-use borrow.Author.Rules.{rules}
 use Rattle.store_edit.proofs.number.chmod_held.Goals as goal
 
 pub set_mode-requires : goal.set_mode-requires

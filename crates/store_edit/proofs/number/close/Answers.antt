@@ -8,7 +8,6 @@ use Rattle.layout.specs.Lent.{◌∘◌, with_words, with_records, with_heads, w
 use Rattle.edit_room.specs.Extents.{trim}
 use Rattle.store_edit.proofs.Carrying.{shows_whole, shows-released, roomy_of}
 use Rattle.store_edit.proofs.Entering.{open_at}
-use borrow.Author.Rules.{rules}
 use Rattle.store_edit.proofs.number.close.Goals as goal
 
 pub close_number-requires : goal.close_number-requires

@@ -12,7 +12,6 @@ use Rattle.layout.specs.Lent.{◌∘◌, with_words, with_records, with_paths}
 use Rattle.edit_room.specs.Extents.{trim}
 use Rattle.store_edit.proofs.Carrying.{shows_same}
 use Rattle.store_edit.proofs.Entering.{slot-few, spot-look, closed_at, same_opens}
-use borrow.Author.Rules.{rules}
 use Rattle.store_edit.proofs.number.opens.Goals as goal
 
 pub open_number-requires : goal.open_number-requires

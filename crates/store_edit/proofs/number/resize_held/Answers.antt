@@ -11,7 +11,6 @@ use Rattle.edit_room.specs.Extents.{trim}
 use Rattle.store_edit.proofs.Carrying.{shows_whole}
 use Rattle.store_edit.proofs.Entering.{same_change}
 use Rattle.store_edit.proofs.Fitting.{held_is, held-slot, resize-may}
-use borrow.Author.Rules.{rules}
 use Rattle.store_edit.proofs.number.resize_held.Goals as goal
 
 pub held_slot-requires : goal.held_slot-requires

@@ -12,7 +12,6 @@ use Rattle.layout.specs.Lent.{◌∘◌, with_words, with_times}
 use Rattle.edit_room.specs.Extents.{trim}
 use Rattle.store_edit.proofs.Carrying.{shows_same}
 use Rattle.store_edit.proofs.Entering.{open_at, same_change}
-use borrow.Author.Rules.{rules}
 use Rattle.store_edit.proofs.number.touch_held.Goals as goal
 
 pub set_some_times-requires : goal.set_some_times-requires

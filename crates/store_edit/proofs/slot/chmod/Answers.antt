@@ -9,7 +9,6 @@ use Rattle.layout.specs.Lent.{◌∘◌, with_words, with_records, with_heads}
 use Rattle.edit_room.specs.Extents.{trim}
 use Rattle.store_edit.proofs.Carrying.{shows_whole}
 use Rattle.store_edit.proofs.Entering.{spot-slot, spot_has}
-use borrow.Author.Rules.{rules}
 use Rattle.store_edit.proofs.slot.chmod.Goals as goal
 
 pub set_mode-requires : goal.set_mode-requires

@@ -11,7 +11,6 @@ use Rattle.layout.specs.Lent.{◌∘◌, with_records, with_times}
 use Rattle.edit_room.specs.Extents.{trim}
 use Rattle.store_edit.proofs.Carrying.{shows_same}
 use Rattle.store_edit.proofs.Entering.{spot-slot, spot-times, spot_has, same_change}
-use borrow.Author.Rules.{rules}
 use Rattle.store_edit.proofs.slot.touch.Goals as goal
 
 pub set_times-requires : goal.set_times-requires

@@ -11,7 +11,6 @@ use Rattle.edit_room.specs.Extents.{trim}
 use Rattle.store_edit.proofs.Carrying.{shows_whole, spots_same}
 use Rattle.store_edit.proofs.Entering.{spot_has, same_change}
 use Rattle.store_edit.proofs.Fitting.{write-room}
-use borrow.Author.Rules.{rules}
 use Rattle.store_edit.proofs.slot.write.Goals as goal
 
 pub set_contents-requires : goal.set_contents-requires

@@ -7,7 +7,6 @@ use Rattle.model.specs.Prog.{go}
 use Rattle.layout.specs.Lent.{◌∘◌, with_words, with_paths}
 use Rattle.edit_room.specs.Extents.{trim}
 use Rattle.store_edit.proofs.Carrying.{shows_same}
-use borrow.Author.Rules.{rules}
 use Rattle.store_edit.proofs.state.go.Goals as goal
 
 pub returns : goal.returns

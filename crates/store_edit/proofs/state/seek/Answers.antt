@@ -6,7 +6,6 @@ use Rattle.model.specs.Prog.{seek}
 use Rattle.layout.specs.Lent.{with_words}
 use Rattle.edit_room.specs.Extents.{trim}
 use Rattle.store_edit.proofs.Carrying.{shows_same}
-use borrow.Author.Rules.{rules}
 use Rattle.store_edit.proofs.state.seek.Goals as goal
 
 pub returns : goal.returns

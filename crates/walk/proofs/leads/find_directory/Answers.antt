@@ -1,7 +1,6 @@
 -- `find_directory` meets its contract: what the path leads to, with 9 where that is no directory.
 -- Assumes nothing.
 use Rattle.walk.proofs.Leading.{directory_there, directory-file, directory-refused}
-use borrow.Author.Rules.{rules}
 use Rattle.walk.proofs.leads.find_directory.Goals as goal
 
 pub returns-then-kind-ne0 : goal.returns-then-kind-ne0

@@ -1,11 +1,9 @@
 -- `last_entry` meets its contract: in the directory that was found the name is looked for, in every world that the store shows.
 -- Assumes nothing.
 use lib.ListN.{take}
-use Rattle.layout.specs.Store.{Store}
 use Rattle.layout.specs.Lent.{◌∘◌, with_words, with_records, with_heads, with_bytes}
 use Rattle.walk.proofs.Rooted.{some_asked}
 use Rattle.walk.proofs.Leading.{dir-stands, dir-kind, last_found, last_missing, last_refused}
-use borrow.Author.Rules.{rules}
 use Rattle.walk.proofs.leads.last_entry.Goals as goal
 
 pub child-requires : goal.child-requires

@@ -1,7 +1,6 @@
 -- `leads` meets its contract: what it answers is what the lookup comes to, with 8 where that is nothing.
 -- Assumes nothing.
 use Rattle.walk.proofs.Leading.{leads_of}
-use borrow.Author.Rules.{rules}
 use Rattle.walk.proofs.leads.leads.Goals as goal
 
 pub returns-in-Found : goal.returns-in-Found

@@ -4,10 +4,8 @@
 use Prim.Native.Nat.{◌≤◌}
 use native.Mathlib.Omega.{arith}
 use lib.ListN.{length}
-use Rattle.layout.specs.Store.{Store}
 use Rattle.layout.specs.Lent.{◌∘◌, with_words, with_records, with_heads, with_bytes}
 use Rattle.walk.proofs.Behind.{rest-low, dir-plain, follows}
-use borrow.Author.Rules.{rules}
 use Rattle.walk.proofs.link.behind_link.Goals.{Start}
 use Rattle.walk.proofs.link.behind_link.Goals as goal
 

@@ -4,11 +4,9 @@
 use mathlib.Core.Path.{refl}
 use Prim.Native.Nat.{◌≤◌, ◌<◌}
 use native.Mathlib.Omega.{arith}
-use borrow.Author.Rules.{rules}
 use lib.ListN.{take}
-use Rattle.layout.specs.Store.{Store}
 use Rattle.walk.proofs.Passing.{four, some_link}
-use Rattle.walk.proofs.Chains.{walks-few, Chained, chain-start, chain-ended, chain_link, chain-loop, chain-long, chain_on}
+use Rattle.walk.proofs.Chains.{walks-few, chain-start, chain-ended, chain_link, chain-loop, chain-long, chain_on}
 use Rattle.walk.proofs.lookup.lookup_entry_detail.Goals.{After-struct_known-1, Else-left-eq0}
 use Rattle.walk.proofs.lookup.lookup_entry_detail.Goals as goal
 

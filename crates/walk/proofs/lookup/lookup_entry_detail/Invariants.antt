@@ -1,14 +1,9 @@
 -- `lookup_entry_detail` meets its contract. The loop's invariant: so many links were followed in every world that is asked, and the path that
 -- they led to stands in front of the buffer. The measure is how many last links may still be followed.
 -- Assumes nothing.
-use mathlib.Core.Path.{refl}
-use Prim.Native.Nat.{◌≤◌, ◌<◌}
-use native.Mathlib.Omega.{arith}
-use borrow.Author.Rules.{rules}
 use lib.ListN.{take}
-use Rattle.layout.specs.Store.{Store}
-use Rattle.walk.proofs.Passing.{four, some_link}
-use Rattle.walk.proofs.Chains.{walks-few, Chained, chain-start, chain-ended, chain_link, chain-loop, chain-long, chain_on}
+use Rattle.walk.proofs.Passing.{four}
+use Rattle.walk.proofs.Chains.{Chained}
 use Rattle.walk.proofs.lookup.lookup_entry_detail.Given as goal
 
 abbrev pub invariant-loop-spot : goal.invariant-loop-spot

@@ -2,13 +2,11 @@
 -- path that they led to stands in front of the buffer. The measure is how many more are allowed.
 -- Assumes nothing.
 use mathlib.Core.Path.{sym}
-use Prim.Native.Nat.{◌-◌, ◌≤◌, ◌<◌}
+use Prim.Native.Nat.{◌≤◌, ◌<◌}
 use native.Mathlib.Omega.{arith}
-use borrow.Author.Rules.{rules}
 use lib.ListN.{length, take}
 use lib.Seq.{length-take-le}
-use Rattle.layout.specs.Store.{Store}
-use Rattle.walk.proofs.Passing.{four, some_link, refused_by, Going, go-start, go-ended, go-file, go-link, go-loop, go-long, go_on}
+use Rattle.walk.proofs.Passing.{four, some_link, refused_by, go-start, go-ended, go-file, go-link, go-loop, go-long, go_on}
 use Rattle.walk.proofs.lookup.lookup_entry_detail_no_follow.Goals.{At-loop-spot, Else-links-eq-MOST}
 use Rattle.walk.proofs.lookup.lookup_entry_detail_no_follow.Goals as goal
 

@@ -7,12 +7,11 @@ use mathlib.Core.Option.{some}
 use mathlib.Core.Path.{◌≡◌, refl, ap, ◌∙◌, subst}
 use Prim.Native.Nat.{ℕ, ◌+◌, ◌-◌}
 use native.Mathlib.Omega.{arith}
-use borrow.Author.Rules.{rules}
-use lib.ListN.{length, get_or}
+use lib.ListN.{get_or}
 use Rattle.path.specs.Backward.{part}
 use Rattle.model.specs.Prog.{World, a_dir, aFile, a_link, kind?, answer}
 use Rattle.model.specs.Calls.States.{State}
-use Rattle.layout.specs.Store.{Store, lent}
+use Rattle.layout.specs.Store.{Store}
 use Rattle.layout.specs.Lent.{◌∘◌, with_words, with_records, with_heads, with_bytes}
 use Rattle.ask_entry.specs.Reads.{kind_from}
 use Rattle.store.specs.Shows.{Shows, Asked, LookIs, RootIs}

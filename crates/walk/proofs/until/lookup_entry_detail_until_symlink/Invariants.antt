@@ -3,21 +3,13 @@
 -- which is not the hidden entry; a turn goes to the child that the store finds; and each return is what the model answers of the kind that
 -- stands there. What the calls ask for is said of the caller's store, in a world that it shows. The measure is what is left of the path.
 -- Assumes nothing.
-use mathlib.Core.Option.{some}
-use mathlib.Core.Path.{◌≡◌, refl, ap, ◌∙◌, subst}
-use Prim.Native.Nat.{ℕ, ◌+◌, ◌-◌}
-use native.Mathlib.Omega.{arith}
-use borrow.Author.Rules.{rules}
-use lib.ListN.{length, get_or}
-use Rattle.path.specs.Backward.{part}
-use Rattle.model.specs.Prog.{World, a_dir, aFile, a_link, kind?, answer}
+use Prim.Native.Nat.{◌-◌}
+use lib.ListN.{length}
+use Rattle.model.specs.Prog.{World}
 use Rattle.model.specs.Calls.States.{State}
 use Rattle.layout.specs.Store.{Store, lent}
-use Rattle.layout.specs.Lent.{◌∘◌, with_words, with_records, with_heads, with_bytes}
-use Rattle.ask_entry.specs.Reads.{kind_from}
-use Rattle.store.specs.Shows.{Shows, Asked, LookIs, RootIs}
-use Rattle.walk.proofs.Reached.{Reached, kind-dir, kind-is, no_root, at-root, at-slash, at-file, at-link, at-gone, at_next, at-last-link, at_entry}
-use Rattle.walk.proofs.Rooted.{some_asked, never, root_there}
+use Rattle.store.specs.Shows.{Shows, Asked}
+use Rattle.walk.proofs.Reached.{Reached}
 use Rattle.walk.proofs.until.lookup_entry_detail_until_symlink.Given as goal
 
 abbrev pub invariant-loop-e : goal.invariant-loop-e
