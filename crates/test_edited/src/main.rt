@@ -15,7 +15,7 @@
 // An entry is written as `AT PATH [SLOT: TIMES] KIND, MODE, BYTES`, the times accessed, changed, created and modified. An open
 // number is written with its slot, which may have lost its name. A text of more than 40 bytes is its first and last 8, and a sum.
 mod edit;
-mod store;
+mod shown;
 
 use std::io::{self, BufWriter, Write};
 use test_fields::{at, find};
@@ -47,7 +47,7 @@ fn one<W: Write>(
     say(out, line)?;
     say_answer(out, made)?;
     if made {
-        store::say_store(out, words, records, heads, times, paths, bytes)?;
+        shown::say_store(out, words, records, heads, times, paths, bytes)?;
     }
     Ok(())
 }

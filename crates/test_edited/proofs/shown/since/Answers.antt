@@ -7,7 +7,7 @@ use lib.Signed.{lt_z, non_neg}
 use mir.Syntax.{w64}
 use mir.Val.{to_z, of_z}
 use mir.Facts.{Fits-nat_abs, sfits_to_z, Fits-of_z}
-use Rattle.test_edited.proofs.store.since.Goals as goal
+use Rattle.test_edited.proofs.shown.since.Goals as goal
 
 -- the test `t > 0`, on the number that the machine reads back from the bits of t
 positive : (z : ℤ) → lt_z (pos 0) z ≡ true → T (non_neg z)
