@@ -1,4 +1,4 @@
-/* How long text and path take, by way of the static library `test_probe_c`, beside Rust's std on the same input
+/* How long text and path take, by way of the static library `test_probe`, beside Rust's std on the same input
    (baseline.rs). Each line is the best of several runs, since other work on the machine can only make a run longer. */
 #include <alloca.h>
 #include <stdint.h>

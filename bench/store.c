@@ -1,4 +1,4 @@
-/* How long the test of refusal 1 takes (`lawful`, by way of the static library `test_probe_c`), on stores that are written
+/* How long the test of refusal 1 takes (`lawful`, by way of the static library `test_probe`), on stores that are written
    here as docs/LAYOUT.md says. Each line is the best of several runs. */
 #include <stdint.h>
 #include <stdio.h>

@@ -1,4 +1,4 @@
-// The static library `test_probe_c` against Rust: the same random and enumerated texts and paths go to both, and every answer and
+// The static library `test_probe` against Rust: the same random and enumerated texts and paths go to both, and every answer and
 // every byte of the buffers is compared. The Rust side reads paths by std::path::Path::components, as the crate that this
 // project stands in for does in its normalize_path.
 use std::ffi::OsStr;
@@ -29,7 +29,7 @@ extern "C" {
 
 const SEED: u64 = 20260000000000003;
 const LONGEST: usize = 1024;
-// The numbers of `test_probe_c`: a million and the refusal.
+// The numbers of `test_probe`: a million and the refusal.
 const NAME_TOO_LONG: u64 = 1_000_001;
 const BEHIND_TOO_LONG: u64 = 1_000_002;
 const PATH_TOO_LONG: u64 = 1_000_006;
