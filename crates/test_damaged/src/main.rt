@@ -12,7 +12,7 @@ mod read;
 mod store;
 mod tried;
 
-use std::io::{self, BufWriter, Write};
+use std::io::{self, Write};
 use test_fields::{at, find, front};
 use test_shown::read::input;
 
@@ -47,9 +47,10 @@ fn cases<W: Write>(out: &mut W, s: &[u8]) -> io::Result<()> {
 }
 
 fn main(rt: HostRuntime) -> io::Result<()> {
-    let mut out = BufWriter::new(rt.alloc(), io::writer(&rt))?;
+    let mut out = io::writer(&rt);
     tried::shown_k(&mut out)?;
-    let s = input(rt.alloc(), rt.reader())?;
-    cases(&mut out, s.as_slice())?;
+    let mut space = [0u8; 65536];
+    let n = input(&mut rt.reader(), &mut space)?;
+    cases(&mut out, &space[..n])?;
     out.flush()
 }

@@ -17,7 +17,7 @@
 mod edit;
 mod shown;
 
-use std::io::{self, BufWriter, Write};
+use std::io::{self, Write};
 use test_fields::{at, find};
 use test_shown::read::input;
 use test_shown::text::say;
@@ -90,8 +90,9 @@ fn edits<W: Write>(out: &mut W, s: &[u8]) -> io::Result<()> {
 }
 
 fn main(rt: HostRuntime) -> io::Result<()> {
-    let s = input(rt.alloc(), rt.reader())?;
-    let mut out = BufWriter::new(rt.alloc(), io::writer(&rt))?;
-    edits(&mut out, s.as_slice())?;
+    let mut space = [0u8; 65536];
+    let n = input(&mut rt.reader(), &mut space)?;
+    let mut out = io::writer(&rt);
+    edits(&mut out, &space[..n])?;
     out.flush()
 }

@@ -9,7 +9,7 @@
 mod answers;
 
 use crate::answers::{four_args, one_arg, two_args};
-use std::io::{self, BufWriter, Write};
+use std::io::{self, Write};
 use test_fields::{at, find, spaces};
 use test_shown::read::input;
 use test_shown::text::{say, say_number};
@@ -51,10 +51,11 @@ fn answer_all<W: Write>(out: &mut W, s: &[u8]) -> io::Result<()> {
 }
 
 fn main(rt: HostRuntime) -> io::Result<()> {
-    let s = input(rt.alloc(), rt.reader())?;
-    let mut out = BufWriter::new(rt.alloc(), io::writer(&rt))?;
-    answer_all(&mut out, s.as_slice())?;
-    if s.len() == 65536 {
+    let mut space = [0u8; 65536];
+    let n = input(&mut rt.reader(), &mut space)?;
+    let mut out = io::writer(&rt);
+    answer_all(&mut out, &space[..n])?;
+    if n == 65536 {
         say(&mut out, b"more than 65,535 bytes: the rest is not read\n")?;
     }
     out.flush()

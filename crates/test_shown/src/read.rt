@@ -1,18 +1,23 @@
 // What is read, and the numbers of a line.
-ghost use Rattle.std.specs.Prelude.{◌≡◌, IfOk, IfSome, take};
+ghost use Rattle.std.specs.Prelude.{◌≤◌, IfOk, length};
 
 use crate::text::wide;
-use std::alloc::Global;
 use std::io::{Read, Result};
 use test_fields::at;
 
-// The first 65,536 bytes of what is read, or all where there are fewer.
-pub fn input<R: Read + Drop>(alloc: Global, from: R) -> Result<Vec<u8>>
-    ensures { IfOk result (λ s. IfSome (R.remaining from) (λ xs. s.items ≡ take 65536 xs)) }
+// Reads until the slice is full or there is no more, and tells how many bytes.
+pub fn input<R: Read>(from: &mut R, into: &mut [u8]) -> Result<usize>
+    ensures { IfOk result (λ n. n ≤ length into.new) }
 {
-    let mut bytes = Vec::new(alloc);
-    from.take(65536).read_to_end(&mut bytes)?;
-    Ok(bytes)
+    let mut n = 0;
+    while n < into.len() {
+        let k = from.read(&mut into[n..])?;
+        if k == 0 {
+            break;
+        }
+        n += k;
+    }
+    Ok(n)
 }
 
 // A digit, decimal or hexadecimal in small letters.
