@@ -7,12 +7,18 @@ use Rattle.layout.specs.Store.{Store, lent, state}
 use Rattle.layout.specs.Lawful.{Lawful}
 use Rattle.model.specs.Calls.States.{edited}
 use Rattle.layout.specs.Alike.{Spells}
+use Rattle.layout.specs.declared.slices.Slices.{Slices}
+use Rattle.layout.specs.declared.slices.Tree.{Tree}
 
 -- ---- all six
 
 -- the store that is lent
 abbrev pub lends : List ℕ → List ℕ → List ℕ → List ℤ → List ℕ → List ℕ → Store
 lends words records heads times paths bytes = lent words records heads times paths bytes
+
+-- the same, by the slices that travel together
+abbrev pub lent_by : Slices → Store
+lent_by s = lends s.words.now s.records.now s.heads.now s.times.now s.paths.now s.bytes.now
 
 -- ---- some of them, in any store
 
@@ -44,6 +50,10 @@ with_paths paths st = lent st.words st.records st.heads st.times paths st.bytes
 -- with this byte storage
 abbrev pub with_bytes : List ℕ → Store → Store
 with_bytes bytes st = lent st.words st.records st.heads st.times st.paths bytes
+
+-- with those that hold the tree
+abbrev pub with_tree : Tree → Store → Store
+with_tree t = with_words t.words.now ∘ with_records t.records.now ∘ with_heads t.heads.now ∘ with_bytes t.bytes.now
 
 -- ---- the same at a function's two moments, its entry and its exit
 

@@ -1,5 +1,6 @@
 pub mod Numbers
 pub mod Fields
+pub mod Kinds
 pub mod Rows
 pub mod Slots
 pub mod Store

@@ -4,6 +4,9 @@ ghost use Rattle.std.specs.Prelude.{◌≡◌, ◌<◌};
 ghost use Rattle.layout.specs.Numbers.{depths, name_lengths, slot_numbers, lengths, kinds};
 ghost use Rattle.layout.specs.Fields.{depth_of, nlen_of, slot_of, record_word, len_of, kind_of, mode_of, head_word};
 
+pub mod kind;
+pub mod slices;
+
 // The limits.
 pub const MOST_ENTRIES: u64 = 4096;
 

@@ -7,6 +7,10 @@ pub enum Formed {
     TooLong,
 }
 
+// A path has more than 1,024 bytes: refusal 6.
+#[derive(Clone, Copy, Debug, PartialEq, Eq)]
+pub struct TooLong;
+
 // Where the last name that a text keeps stands, or how many names in front of the text are dropped.
 #[derive(Drop)]
 pub enum Last {
