@@ -1,3 +1,3 @@
 pub mod Stats
 pub mod Places
-pub mod Opened
+pub mod Numbers

@@ -14,6 +14,8 @@ use Rattle.model.specs.Tree.{Path, File, Node, dir, file, link}
 use Rattle.model.specs.Prog.{World, Kind, a_dir, aFile, a_link, kind_number, Stat, node_kind, stat_of, bytes_of, target_of, on_some, kind?, stat?, answer}
 use Rattle.model.specs.Calls.States.{world_of}
 use Rattle.model.proofs.Entries.{some_inj}
+use Rattle.layout.specs.declared.kind.Kind as shown
+use Rattle.layout.specs.Kinds.{kind_from}
 use Rattle.layout.specs.Fields.{slot_of, len_of}
 use Rattle.layout.specs.Fields as fields
 use Rattle.layout.specs.Store.{Store, count, meta_at, bytes_at, kind_at, node_at, state}
@@ -24,7 +26,7 @@ use Rattle.ask_find.specs.Paths.{slot_at, path_at}
 use Rattle.ask_find.proofs.Records.{slot-low, path-look}
 use Rattle.ask_find.specs.declared.Spot.{Spot}
 use Rattle.ask_find.specs.Spots.{At}
-use Rattle.ask_entry.specs.Reads.{world_in, kind_from, kind_by, stat_at, Contents}
+use Rattle.ask_entry.specs.Reads.{world_in, kind_by, stat_at, Contents}
 
 -- two kinds with different numbers
 other_kind : {A : Type 0} (a b : Kind) → a ≡ b → (kind_number a ≡ kind_number b → ⊥) → A
@@ -112,7 +114,7 @@ module _ (st : Store) (l : Lawful st) where
   -- ---- the entry at a spot, whose slot is k
 
   module _ (s : Spot) (p : Path) (a : At st s p) (k : ℕ) (z : k ≡ slot_at st s.at) where
-    pub spot-kind : (h r : ℕ) → h ≡ get_or st.heads k 0 → kind_from r ≡ kind_by (fields.kind_of h) → answer (kind? p) world ≡ some (kind_from r)
+    pub spot-kind : (h : ℕ) (r : shown.Kind) → h ≡ get_or st.heads k 0 → kind_from r ≡ kind_by (fields.kind_of h) → answer (kind? p) world ≡ some (kind_from r)
     spot-kind h r e f =
         ap (λ (q : Path). answer (kind? q) world) (sym a.path) ∙ kind-told s.at a.within
         ∙ ap (λ (m : ℕ). some (kind_by (kind_at st m))) (sym z) ∙ ap (λ (m : ℕ). some (kind_by (fields.kind_of m))) (sym e) ∙ ap some (sym f)

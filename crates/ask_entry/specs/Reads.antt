@@ -1,20 +1,21 @@
 -- What is read of a store, and which answer of the model it is. Each is said of every store that has the slices that are read.
 -- Assumes nothing.
-use Rattle.std.specs.Prelude.{cond, List, ◌≡◌, ℕ, zero, suc, ◌<◌, T, eqb, ℤ, get_or}
+use Rattle.std.specs.Prelude.{cond, List, ◌≡◌, ℕ, suc, T, eqb, ℤ, get_or, Option, Some, None}
 use Rattle.std.proofs.Math.Option.{none, some}
 use Rattle.text.specs.Utf8.{Bytes}
 use Rattle.path.specs.Path.{names, normal, body}
 use Rattle.model.specs.Tree.{Path}
 use Rattle.model.specs.Prog.{World, Kind, a_dir, aFile, a_link, Stat, Position, kind?, stat?, bytes?, target?, open?, held?, answer}
 use Rattle.model.specs.Calls.States.{world_of}
+use Rattle.layout.specs.declared.kind.Kind as entry
 use Rattle.layout.specs.Fields.{len_of}
+use Rattle.layout.specs.Kinds.{kind_from}
 use Rattle.layout.specs.Store.{Store, holder, kept_length, cell, meta_at, kind_at, state}
 use Rattle.layout.specs.Lawful.{cell_ok, Lawful}
 use Rattle.ask_find.specs.declared.Spot.{Spot}
 use Rattle.ask_find.specs.Spots.{At}
 use Rattle.ask_entry.specs.declared.Stat as shown
-use Rattle.ask_entry.specs.declared.Number.{Number}
-use Rattle.ask_entry.specs.declared.Number.TheVariants.{Closed, Open}
+use Rattle.ask_entry.specs.declared.Opened.{Opened}
 
 -- the world that a store shows to questions
 abbrev pub world_in : Store → World
@@ -22,26 +23,19 @@ world_in st = world_of (state st)
 
 -- ---- metadata
 
--- the kind of a number
-abbrev pub kind_from : ℕ → Kind
-kind_from zero = a_dir
-kind_from (suc zero) = aFile
-kind_from (suc (suc k)) = a_link
-
 -- the metadata of a struct
 abbrev pub stat_from : shown.Stat → Stat
 stat_from r =
     record { kind = kind_from r.kind; size = r.size; meta = record { mode = r.mode; accessed = r.accessed; changed = r.changed; created = r.created; modified = r.modified } }
 
--- the number is that of the kind of the entry at the spot
-abbrev pub TellsKind : List ℕ → List ℕ → Spot → ℕ → Type 0
-TellsKind ws hs s r =
-    (r < 3) × ((st : Store) → st.records ≡ ws → st.heads ≡ hs → Lawful st → (p : Path) → At st s p → answer (kind? p) (world_in st) ≡ some (kind_from r))
+-- it is the kind of the entry at the spot
+abbrev pub TellsKind : List ℕ → List ℕ → Spot → entry.Kind → Type 0
+TellsKind ws hs s r = (st : Store) → st.records ≡ ws → st.heads ≡ hs → Lawful st → (p : Path) → At st s p → answer (kind? p) (world_in st) ≡ some (kind_from r)
 
 -- the struct has its metadata
 abbrev pub TellsStat : List ℕ → List ℕ → List ℤ → Spot → shown.Stat → Type 0
 TellsStat ws hs ts s r =
-    (r.kind < 3) × ((st : Store) → st.records ≡ ws → st.heads ≡ hs → st.times ≡ ts → Lawful st → (p : Path) → At st s p → answer (stat? p) (world_in st) ≡ some (stat_from r))
+    (st : Store) → st.records ≡ ws → st.heads ≡ hs → st.times ≡ ts → Lawful st → (p : Path) → At st s p → answer (stat? p) (world_in st) ≡ some (stat_from r)
 
 -- the kind of an entry whose slot has that kind
 abbrev pub kind_by : ℕ → Kind
@@ -89,12 +83,12 @@ abbrev pub kept_of : Store → ℕ → Path
 kept_of st n = names (cell st (suc n) (kept_length st n))
 
 -- a number is closed, or open on the slot and at the position
-abbrev pub NumberIs : Store → ℕ → Number → Type 0
-NumberIs st n Closed = answer (open? n) (world_in st) ≡ none
-NumberIs st n (Open k p) = (holder st n ≡ suc k) × (answer (open? n) (world_in st) ≡ some (record { pos = p; kept = kept_of st n }))
+abbrev pub NumberIs : Store → ℕ → Option Opened → Type 0
+NumberIs st n None = answer (open? n) (world_in st) ≡ none
+NumberIs st n (Some o) = (holder st n ≡ suc o.slot) × (answer (open? n) (world_in st) ≡ some (record { pos = o.pos; kept = kept_of st n }))
 
 -- the same by the words
-abbrev pub TellsNumber : List ℕ → ℕ → Number → Type 0
+abbrev pub TellsNumber : List ℕ → ℕ → Option Opened → Type 0
 TellsNumber ws n r = (st : Store) → st.words ≡ ws → Lawful st → NumberIs st n r
 
 -- the bytes of the file that a number stands on

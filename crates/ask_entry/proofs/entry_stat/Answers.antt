@@ -7,11 +7,9 @@ use Rattle.ask_entry.proofs.Stats.{slot-by, spot-stat}
 use Rattle.ask_entry.proofs.entry_stat.Goals as goal
 
 pub returns : goal.returns
-returns c = (
-  c.slot_stat.ensures.0,
-  λ st e f h l p a.
-      let g = c.args in
-      let k = c.slot_of.result in
-      spot-stat st l g.spot p a k (slot-by g.records.now st g.spot.at c.word_at-w.result k e c.word_at-w.ensures c.slot_of.ensures)
-      (stat_from c.slot_stat.result) (c.slot_stat.ensures.1 ∙ (λ j. stat_at (lent [] [] (sym f j) (sym h j) [] []) k)),
-)
+returns c =
+    λ st e f h l p a.
+    let g = c.args in
+    let k = c.slot_of.result in
+    spot-stat st l g.spot p a k (slot-by g.records.now st g.spot.at c.at.result k e c.at.ensures c.slot_of.ensures)
+    (stat_from c.slot_stat.result) (c.slot_stat.ensures ∙ (λ j. stat_at (lent [] [] (sym f j) (sym h j) [] []) k))

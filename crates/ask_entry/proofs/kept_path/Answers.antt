@@ -5,7 +5,7 @@ use Prim.Native.Nat.{ℕ, ◌*◌}
 use native.Mathlib.Numerals.{add-one}
 use native.Mathlib.Omega.{arith}
 use lib.ListN.{take, drop}
-use Rattle.ask_entry.proofs.Opened.{word_of, open-low, kept-told}
+use Rattle.ask_entry.proofs.Numbers.{word_of, open-low, kept-told}
 use Rattle.ask_entry.proofs.kept_path.Goals as goal
 
 pub returns-then-n-ge-FILE_NUMBERS : goal.returns-then-n-ge-FILE_NUMBERS

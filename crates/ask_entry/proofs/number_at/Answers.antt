@@ -2,7 +2,7 @@
 use mathlib.Core.List.{List}
 use mathlib.Core.Path.{sym, ap, ◌∙◌}
 use Prim.Native.Nat.{ℕ}
-use Rattle.ask_entry.proofs.Opened.{word_of, number-closed, number-open}
+use Rattle.ask_entry.proofs.Numbers.{word_of, number-closed, number-open}
 use Rattle.ask_entry.proofs.number_at.Goals as goal
 
 pub returns-then-h-eq0 : goal.returns-then-h-eq0

@@ -9,6 +9,7 @@ use native.Mathlib.Omega.{arith}
 use lib.Dec.{T, leb, ltb}
 use lib.ListN.{get_or}
 use borrow.Author.Tests.{ltb-true, lt-ltb}
+use Rattle.std.specs.Prelude.{Some}
 use Rattle.text.specs.Utf8.{Bytes}
 use Rattle.path.specs.Path.{names, normal, body, same, proper, all_proper, path_fits}
 use Rattle.path.proofs.Laws.{and_left, and_right, and_both, same_equal, settled}
@@ -20,8 +21,8 @@ use Rattle.layout.specs.Store.{Store, here_length, holder, position, kept_length
 use Rattle.layout.specs.Lawful.{cell_ok, kept_ok, Lawful}
 use Rattle.layout.proofs.Tables.{open-found, open_there}
 use Rattle.layout.proofs.Entered.{has_file, stood}
+use Rattle.ask_entry.specs.declared.Opened.{Opened}
 use Rattle.ask_entry.specs.Reads.{world_in, PathIs, kept_of, NumberIs}
-use Rattle.ask_entry.specs.declared.Number.TheVariants as Number
 
 -- ---- paths as they are kept
 
@@ -99,19 +100,18 @@ module _ (st : Store) (l : Lawful st) (n : ℕ) where
         go none y = y
         go (some o) y = let a = open-low o y in absurd (a.1 (sym (word_low st.words n 5 a.0) ∙ sym e ∙ z))
 
-    pub number-open : (h ≡ 0 → ⊥) → (p : ℕ) → p ≡ word_of st.words n 6 → NumberIs st n (Number.Open (h - 1) p)
+    pub number-open : (h ≡ 0 → ⊥) → (p : ℕ) → p ≡ word_of st.words n 6 → NumberIs st n (Some (record { slot = h - 1; pos = p }))
     number-open z p f =
         let a = word-high st.words n 5 (λ y. z (e ∙ y)) in
         let b : holder st n ≡ h = sym (e ∙ word_low st.words n 5 a) in
         (b ∙ omega (arith, z), open_told st l n a (λ y. z (sym b ∙ y)) ∙ ap (λ (k : ℕ). some (record { pos = k; kept = kept_of st n })) (sym (f ∙ word_low st.words n 6 a)))
 
-    pub held_bytes : (o : Position) → answer (open? n) (world_in st) ≡ some o → (s : Bytes) → s ≡ bytes_at st (h - 1) → answer (held? n) (world_in st) ≡ some s
-    held_bytes o y s f =
-        let a = open-low o y in
-        held-told st l n a.0 a.1 ∙ ap (λ (k : ℕ). some (bytes_at st (k - 1))) (sym (e ∙ word_low st.words n 5 a.0)) ∙ ap some (sym f)
-
-    pub held-closed : {A : Type 0} → h ≡ 0 → (o : Position) → answer (open? n) (world_in st) ≡ some o → A
-    held-closed z o y = clash (answer (open? n) (world_in st)) o (number-closed z) y
+  -- the bytes of the file that an open number stands on
+  pub held_by : (x : Opened) → NumberIs st n (Some x) → (o : Position) → answer (open? n) (world_in st) ≡ some o → (s : Bytes) → s ≡ bytes_at st x.slot → answer (held? n) (world_in st) ≡ some s
+  held_by x e o y s f =
+      let a = open-low o y in
+      let k : holder st n - 1 ≡ x.slot = omega (arith, e.0) in
+      held-told st l n a.0 a.1 ∙ ap (λ (k : ℕ). some (bytes_at st k)) k ∙ ap some (sym f)
 
   pub kept-told : (o : Position) → answer (open? n) (world_in st) ≡ some o → (k : ℕ) → k ≡ word_of st.words n 7 → (s : Bytes) → s ≡ cell st (suc n) k → PathIs o.kept s
   kept-told o y k f s e =
