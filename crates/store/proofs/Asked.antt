@@ -3,6 +3,8 @@
 -- Assumes nothing.
 use mathlib.Core.Path.{◌≡◌, refl, sym, ◌∙◌}
 use Prim.Native.Nat.{ℕ}
+use Rattle.std.specs.Prelude as std
+use Rattle.std.specs.Prelude.{option_map}
 use Rattle.text.specs.Utf8.{Bytes}
 use Rattle.model.specs.Tree.{Path}
 use Rattle.model.specs.Prog.{Ask, kind?, bytes?, target?, open?}
@@ -13,8 +15,7 @@ use Rattle.layout.proofs.Edited.Shapes.{lawful-shape}
 use Rattle.edit_room.specs.Extents.{trim}
 use Rattle.ask_entry.specs.Reads.{Contents, kept_of}
 use Rattle.ask_entry.specs.Reads as reads
-use Rattle.ask_entry.specs.declared.Number.TheVariants as number
-use Rattle.store.specs.declared.Number.TheVariants.{Closed, Open}
+use Rattle.ask_entry.specs.declared.Opened.{Opened}
 use Rattle.store.specs.Shows.{Shows, says, NumberIs}
 
 pub told : (st : Store) (s : State) → Shows st s → (q : Ask) → says q (state (trim st)) ≡ says q s
@@ -29,8 +30,6 @@ contents-told st s h p b x =
       link = λ e. sym (told st s h (target? p)) ∙ x.link (told st s h (kind? p) ∙ e);
     }
 
-pub closed-told : (st : Store) (s : State) → Shows st s → (n : ℕ) → reads.NumberIs (trim st) n number.Closed → NumberIs s n Closed
-closed-told st s h n x = sym (told st s h (open? n)) ∙ x
-
-pub open_told : (st : Store) (s : State) → Shows st s → (n k p : ℕ) → reads.NumberIs (trim st) n (number.Open k p) → NumberIs s n (Open p)
-open_told st s h n k p x = (record { pos = p; kept = kept_of (trim st) n }, sym (told st s h (open? n)) ∙ x.1, refl)
+pub number-told : (st : Store) (s : State) → Shows st s → (n : ℕ) (r : std.Option Opened) → reads.NumberIs (trim st) n r → NumberIs s n (option_map (λ (o : Opened). o.pos) r)
+number-told st s h n std.None x = sym (told st s h (open? n)) ∙ x
+number-told st s h n (std.Some o) x = (record { pos = o.pos; kept = kept_of (trim st) n }, sym (told st s h (open? n)) ∙ x.1, refl)

@@ -2,6 +2,7 @@
 -- with room for the words of all slots that they allow.
 -- Assumes nothing.
 use Rattle.std.specs.Prelude.{[], ◌∷◌, ◌++◌, ◌≡◌, ℕ, ◌≤◌, ◌<◌}
+use Rattle.std.specs.Prelude as std
 use Rattle.std.proofs.Math.Option.{none, some}
 use Rattle.model.specs.Tree.{Path}
 use Rattle.text.specs.Utf8.{Bytes}
@@ -19,8 +20,6 @@ use Rattle.ask_find.specs.declared.Look.TheVariants.{Found, Missing}
 use Rattle.ask_find.specs.Paths.{path_at}
 use Rattle.ask_find.specs.Spots.{At, Vacant}
 use Rattle.ask_entry.specs.Reads.{PathIs}
-use Rattle.store.specs.declared.Number.{Number}
-use Rattle.store.specs.declared.Number.TheVariants.{Closed, Open}
 
 -- the store shows the state: what is read back from it is the state, file numbers apart
 pub record Shows (st : Store) (s : State) : Type 0 where
@@ -53,9 +52,9 @@ abbrev pub says : (q : Ask) → State → Answer q
 says q s = answer q (world_of s)
 
 -- a number of that state is closed, or open at the position
-abbrev pub NumberIs : State → ℕ → Number → Type 0
-NumberIs s n Closed = says (open? n) s ≡ none
-NumberIs s n (Open k) = (o : Position) × (says (open? n) s ≡ some o) × (o.pos ≡ k)
+abbrev pub NumberIs : State → ℕ → std.Option ℕ → Type 0
+NumberIs s n std.None = says (open? n) s ≡ none
+NumberIs s n (std.Some k) = (o : Position) × (says (open? n) s ≡ some o) × (o.pos ≡ k)
 
 -- the bytes are those of the file that the open number stands on
 abbrev pub HeldIs : State → ℕ → Bytes → Type 0

@@ -1,41 +1,30 @@
 #![tactic(auto)]
 // The store in the model's words: each question of the model about an entry, over slices that are as long as the limits ask.
 ghost use Rattle.std.proofs.Math.Option.{some};
-ghost use Rattle.std.specs.Prelude.{◌≡◌, ◌<◌, take, get_or};
+ghost use Rattle.std.specs.Prelude.{◌≡◌, take, get_or};
 ghost use Rattle.layout.specs.Numbers.{extent_at};
+ghost use Rattle.layout.specs.Kinds.{kind_from};
 ghost use Rattle.layout.specs.Lent.{◌∘◌, with_words, with_records, with_heads, with_bytes, still, with_times, with_paths};
 ghost use Rattle.layout.specs.Lent.{◌&◌, with_times, with_paths};
 ghost use Rattle.model.specs.Prog.{kind?, stat?, bare?, mask?};
 ghost use Rattle.model.specs.Calls.States.{world_of};
-ghost use Rattle.ask_entry.specs.Reads.{kind_from, stat_from, Contents, PathIs};
+ghost use Rattle.ask_entry.specs.Reads.{stat_from, Contents, PathIs};
 ghost use Rattle.store.specs.Shows.{Of, OfEntry, Some, SomeEntry, says, NumberIs, HeldIs, KeptIs, ChildIs, RootIs};
 
 use ask_entry::Stat;
 use ask_find::{Look, Spot};
+use layout::kind::Kind;
 use layout::{COUNT_AT, EXTENT_AT, MASK_AT};
 
 pub mod listing;
 pub mod space;
 
-// A file number: closed, or open at a position.
-#[derive(Drop)]
-pub enum Number {
-    Closed,
-    Open(u64),
-}
-
 // The words of the slots that there are so far.
 pub(crate) fn in_use<'a>(words: &[u64], heads: &'a [u64]) -> &'a [u64]
     ensures { result.now ≡ take (get_or words.now extent_at 0) heads.now }
 {
-    if words.len() <= EXTENT_AT {
-        return &heads[..0];
-    }
-    let n = words[EXTENT_AT] as usize;
-    if heads.len() <= n {
-        return heads;
-    }
-    &heads[..n]
+    let n = words.get(EXTENT_AT).copied().unwrap_or(0) as usize;
+    heads.get(..n).unwrap_or(heads)
 }
 
 // The root.
@@ -61,9 +50,9 @@ pub fn child(
     ask_find::child(records, bytes, words[COUNT_AT] as usize, dir, name, hidden)
 }
 
-// The kind of the entry at the spot: 0 for a directory, 1 for a file, 2 for a link.
-pub fn kind(words: &[u64], records: &[u64], heads: &[u64], spot: Spot) -> u8
-    ensures { (result < 3) × OfEntry (still (with_words words.now ∘ with_records records.now ∘ with_heads heads.now)) spot
+// The kind of the entry at the spot.
+pub fn kind(words: &[u64], records: &[u64], heads: &[u64], spot: Spot) -> Kind
+    ensures { OfEntry (still (with_words words.now ∘ with_records records.now ∘ with_heads heads.now)) spot
         (λ s p. says (kind? p) s ≡ some (kind_from result)) }
 {
     ask_entry::entry_kind(records, in_use(words, heads), spot)
@@ -71,8 +60,7 @@ pub fn kind(words: &[u64], records: &[u64], heads: &[u64], spot: Spot) -> u8
 
 // The metadata of the entry at the spot.
 pub fn stat(words: &[u64], records: &[u64], heads: &[u64], times: &[i64], spot: Spot) -> Stat
-    ensures { (result.kind < 3)
-        × OfEntry (still (with_words words.now ∘ with_records records.now ∘ with_heads heads.now ∘ with_times times.now)) spot
+    ensures { OfEntry (still (with_words words.now ∘ with_records records.now ∘ with_heads heads.now ∘ with_times times.now)) spot
         (λ s p. says (stat? p) s ≡ some (stat_from result)) }
 {
     ask_entry::entry_stat(records, in_use(words, heads), times, spot)
@@ -116,14 +104,11 @@ pub fn here<'a>(words: &[u64], paths: &'a [u8]) -> &'a [u8]
     ask_entry::current(words, paths)
 }
 
-// The file number n.
-pub fn open(words: &[u64], n: usize) -> Number
+// The position of the file number n, if it is open.
+pub fn open(words: &[u64], n: usize) -> Option<u64>
     ensures { Of (still (with_words words.now)) (λ _ s. NumberIs s n result) }
 {
-    match ask_entry::number_at(words, n) {
-        ask_entry::Number::Closed => Number::Closed,
-        ask_entry::Number::Open { slot: _, pos } => Number::Open(pos),
-    }
+    ask_entry::number_at(words, n).map(|o| o.pos)
 }
 
 // The bytes of the file that the open number n stands on.

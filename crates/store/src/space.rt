@@ -5,12 +5,14 @@ ghost use Rattle.layout.specs.Lent.{◌&◌};
 ghost use Rattle.model.specs.Tree.{links_in};
 ghost use Rattle.model.specs.Calls.States.{entries_used, bytes_used};
 ghost use Rattle.model.specs.Space.{room_for};
+ghost use Rattle.refusal.specs.Numbers.{answered};
 ghost use Rattle.store.specs.Shows.{Of, OfEntry, Some, SomeEntry};
 ghost use Rattle.store.specs.Space.{WeightIs};
 
 use crate::in_use;
 use ask_find::Spot;
 use layout::{COUNT_AT, MOST_AT, ROOM_AT};
+use refusal::Refusal;
 
 // What an entry takes up: the length of its name, and the bytes that go with it beside the name if it leaves the tree.
 #[derive(Drop)]
@@ -49,19 +51,13 @@ pub fn weigh(words: &[u64], records: &[u64], heads: &[u64], spot: Spot) -> Weigh
     ensures { OfEntry (still (with_words words.now ∘ with_records records.now ∘ with_heads heads.now)) spot (λ s p. WeightIs s p result) }
 {
     let w = ask_used::weigh(words, records, in_use(words, heads), spot);
-    if w.held {
-        return Weight {
-            name: w.name,
-            freed: 0,
-        };
-    }
     Weight {
         name: w.name,
-        freed: w.size,
+        freed: if w.held { 0 } else { w.size },
     }
 }
 
-// 0, or the refusal 15 or 16: whether there is room for so many entries more and so many bytes, where so many bytes are freed.
+// Whether there is room for so many entries more and so many bytes, where so many bytes are freed: NoEntries or NoBytes where not.
 // What is used is within the limits, so no sum is formed: the entries and the bytes that are left are compared, and the bytes only
 // where more grow than are freed.
 pub fn room_for(
@@ -71,18 +67,18 @@ pub fn room_for(
     more: usize,
     grown: u64,
     freed: u64,
-) -> u32
+) -> Result<(), Refusal>
     requires { Some (with_words words.now ∘ with_records records.now ∘ with_heads heads.now) }
-    ensures { Of (still (with_words words.now ∘ with_records records.now ∘ with_heads heads.now)) (λ _ s. result ≡ room_for s more grown freed) }
+    ensures { Of (still (with_words words.now ∘ with_records records.now ∘ with_heads heads.now)) (λ _ s. answered result ≡ room_for s more grown freed) }
 {
     if words[MOST_AT] - words[COUNT_AT] < more as u64 {
-        return 15;
+        return Err(Refusal::NoEntries);
     }
     if grown <= freed {
-        return 0;
+        return Ok(());
     }
     if words[ROOM_AT] - (used(words, records, heads) as u64) < grown - freed {
-        return 16;
+        return Err(Refusal::NoBytes);
     }
-    0
+    Ok(())
 }

@@ -8,10 +8,8 @@ use Rattle.store.proofs.Asked.{told}
 use Rattle.store.proofs.kind.Goals as goal
 
 pub returns : goal.returns
-returns c = (
-  c.entry_kind.ensures.0,
-  λ st s h p a.
-      let g = c.args in
-      let u = (with_words g.words.now ∘ with_records g.records.now ∘ with_heads g.heads.now) st in
-      sym (told u s h (kind? p)) ∙ c.entry_kind.ensures.1 (trim u) refl (sym c.in_use.ensures) h.roomy.lawful p a,
-)
+returns c =
+    λ st s h p a.
+    let g = c.args in
+    let u = (with_words g.words.now ∘ with_records g.records.now ∘ with_heads g.heads.now) st in
+    sym (told u s h (kind? p)) ∙ c.entry_kind.ensures (trim u) refl (sym c.in_use.ensures) h.roomy.lawful p a

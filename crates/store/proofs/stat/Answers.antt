@@ -8,10 +8,8 @@ use Rattle.store.proofs.Asked.{told}
 use Rattle.store.proofs.stat.Goals as goal
 
 pub returns : goal.returns
-returns c = (
-  c.entry_stat.ensures.0,
-  λ st s h p a.
-      let g = c.args in
-      let u = (with_words g.words.now ∘ with_records g.records.now ∘ with_heads g.heads.now ∘ with_times g.times.now) st in
-      sym (told u s h (stat? p)) ∙ c.entry_stat.ensures.1 (trim u) refl (sym c.in_use.ensures) refl h.roomy.lawful p a,
-)
+returns c =
+    λ st s h p a.
+    let g = c.args in
+    let u = (with_words g.words.now ∘ with_records g.records.now ∘ with_heads g.heads.now ∘ with_times g.times.now) st in
+    sym (told u s h (stat? p)) ∙ c.entry_stat.ensures (trim u) refl (sym c.in_use.ensures) refl h.roomy.lawful p a

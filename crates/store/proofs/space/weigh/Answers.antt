@@ -25,8 +25,8 @@ returns-then-w c =
     let r = c.weigh-w.result in
     weight-told u s h p r _ (c.weigh-w.ensures (trim u) refl refl (sym c.in_use.ensures) h.roomy.lawful p a) (ap (λ (b : Bool). cond b 0 r.size) c.if-w.true)
 
-pub returns : goal.returns
-returns c =
+pub returns-else-w : goal.returns-else-w
+returns-else-w c =
     λ st s h p a.
     let g = c.args in
     let u = (with_words g.words.now ∘ with_records g.records.now ∘ with_heads g.heads.now) st in
