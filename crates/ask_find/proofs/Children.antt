@@ -2,6 +2,7 @@
 -- found at another record than the hidden one is in the tree without it, and one that is found there is not.
 -- Assumes nothing.
 use mathlib.Core.Bool.{Bool, true, false, cond}
+use Rattle.std.specs.Prelude.{Ok, Err}
 use mathlib.Core.List.{List, [], ◌∷◌, ◌++◌, append-nil}
 use mathlib.Core.Option.{Option, none, some}
 use mathlib.Core.Path.{◌≡◌, refl, sym, ap, ◌∙◌, subst}
@@ -27,12 +28,9 @@ use Rattle.layout.specs.Parts as parts
 use Rattle.layout.proofs.Named.{total-append, total-split}
 use Rattle.layout.proofs.Rising.{rise-apart}
 use Rattle.layout.proofs.Edited.Removing.{begins}
-use Rattle.ask_find.specs.declared.Place.{Place}
-use Rattle.ask_find.specs.declared.Place.TheVariants as place
 use Rattle.ask_find.specs.declared.Spot.{Spot}
 use Rattle.ask_find.specs.declared.Gap.{Gap}
-use Rattle.ask_find.specs.declared.Look.TheVariants.{Found, Missing}
-use Rattle.ask_find.specs.Finds.{find_in}
+use Rattle.ask_find.specs.Finds.{Place, spot, find_in}
 use Rattle.ask_find.specs.Paths.{slot_at, path_at}
 use Rattle.ask_find.specs.Spots.{At, Directory, Held, Hides, nothing, entry, Seen, between, instead, Looks, Rooted}
 use Rattle.ask_find.proofs.Places.{found-slot, missing-gap}
@@ -148,13 +146,13 @@ module _ (st : Store) (l : Lawful st) where
       named : path_at st s.at ++ (x ∷ []) ≡ p ++ (x ∷ [])
       named = ap (λ (o : Path). o ++ (x ∷ [])) a.path
 
-      pub child-found : (j o : ℕ) → (j ≡ h → ⊥) → place.Found j o ≡ asked → Looks st h t p x (Found (record { at = j; off = o }))
+      pub child-found : (j o : ℕ) → (j ≡ h → ⊥) → Ok (spot j o) ≡ asked → Looks st h t p x (Ok (spot j o))
       child-found j o c z =
           let f = found-slot st l s.at a.within is-dir x n e j o z in
           let y = f.path ∙ named in
           seen h t (p ++ (x ∷ [])) (record { at = j; off = o }) (record { within = f.within; offset = f.offset ∙ total-live st l j (omega (arith, f.within)); path = y }) (hides-next h t p x j f.within y c d)
 
-      pub child-hidden : (j o g : ℕ) → j ≡ h → place.Found j o ≡ asked → g ≡ depth_of (get_or st.records s.at 0) + 1 → Looks st h t p x (Missing (record { at = j; off = o; depth = g }))
+      pub child-hidden : (j o g : ℕ) → j ≡ h → Ok (spot j o) ≡ asked → g ≡ depth_of (get_or st.records s.at 0) + 1 → Looks st h t p x (Err (record { at = j; off = o; depth = g }))
       child-hidden j o g c z i =
           let f = found-slot st l s.at a.within is-dir x n e j o z in
           let y : path_at st h ≡ p ++ (x ∷ []) = ap (path_at st) (sym c) ∙ f.path ∙ named in
@@ -169,7 +167,7 @@ module _ (st : Store) (l : Lawful st) where
             },
           )
 
-      pub child-missing : (j o g : ℕ) → place.Missing j o ≡ asked → g ≡ depth_of (get_or st.records s.at 0) + 1 → Looks st h t p x (Missing (record { at = j; off = o; depth = g }))
+      pub child-missing : (j o g : ℕ) → Err (spot j o) ≡ asked → g ≡ depth_of (get_or st.records s.at 0) + 1 → Looks st h t p x (Err (record { at = j; off = o; depth = g }))
       child-missing j o g z i =
           let m = missing-gap st l s.at a.within is-dir x n e j o z in (
             none-gone h t p x (ap (look (state st).tree) (sym named) ∙ m.missing) d,
@@ -184,11 +182,11 @@ module _ (st : Store) (l : Lawful st) where
 
   -- ---- the root
 
-  pub root-found : 0 < count st → Rooted st (Found (record { at = 0; off = 0 }))
+  pub root-found : 0 < count st → Rooted st (Ok (spot 0 0))
   unfolding path_after name_total
   root-found g = λ h t d. seen h t [] (record { at = 0; off = 0 }) (record { within = g; offset = refl; path = path_next st l 0 g ∙ root-path st l g }) d
 
-  pub root-missing : (g : Gap) → count st ≡ 0 → Rooted st (Missing g)
+  pub root-missing : (g : Gap) → count st ≡ 0 → Rooted st (Err g)
   unfolding look tree_from rows
   root-missing g z = (ap (λ (n : ℕ). look (tree_from (node_at st) [] (rows (take n st.records) st.bytes)) []) z, z)
 

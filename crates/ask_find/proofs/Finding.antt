@@ -2,7 +2,8 @@
 -- lesser names, and what lies below these. So behind each that it has passed the entry may stand. It ends at the entry itself, or
 -- at one that may stand behind it: an entry with a greater name, or one of another directory of the path q.
 -- Assumes nothing.
-use mathlib.Core.Bool.{Bool, true, false}
+use mathlib.Core.Bool.{Bool, true, false, cond}
+use Rattle.std.specs.Prelude.{Ok, Err}
 use mathlib.Core.List.{List, [], ◌∷◌, ◌++◌}
 use mathlib.Core.Path.{◌≡◌, refl, sym, ap, ◌∙◌, subst}
 use Prim.Native.Nat.{ℕ, suc, ◌+◌, ◌≤◌, ◌<◌, zero-le}
@@ -21,14 +22,12 @@ use Rattle.layout.proofs.Named.{name_sum}
 use Rattle.layout.proofs.Rising.{Follows, aside, below, follows_by, by_follows, next_length}
 use Rattle.layout.proofs.Walks.{rest_ok}
 use Rattle.name_order.specs.Order.{order_of}
-use Rattle.name_order.specs.declared.Order.{Order}
-use Rattle.name_order.specs.declared.Order.TheVariants.{Less, Same, More}
+use Rattle.std.specs.declared.cmp.Ordering.{Ordering}
+use Rattle.std.specs.declared.cmp.Ordering.TheVariants.{Less, Equal, Greater}
 use Rattle.name_order.proofs.Orders.{before_of_less, same_of_same, behind_of_more}
 use Rattle.layout.specs.Parts.{path_after, dir_after, Behind}
 use Rattle.layout.proofs.Edited.Removing.{walk-follows, next_keeps}
-use Rattle.ask_find.specs.declared.Place.{Place}
-use Rattle.ask_find.specs.declared.Place.TheVariants.{Found, Missing}
-use Rattle.ask_find.specs.Finds.{pick_place, by_order, find_in}
+use Rattle.ask_find.specs.Finds.{Place, spot, by_order, find_in}
 
 -- ---- one entry
 
@@ -109,8 +108,8 @@ pub record MissingAt (kind : ℕ → ℕ) (q : Path) (x : Name) (p : Path) (d : 
 
 -- what an answer of the scan says
 abbrev pub Says : (ℕ → ℕ) → Path → Name → Path → Bool → List Row → ℕ → ℕ → Place → Type 0
-Says kind q x p d rs k o (Found j b) = FoundAt q x p rs k o j b
-Says kind q x p d rs k o (Missing j b) = MissingAt kind q x p d rs k o j b
+Says kind q x p d rs k o (Ok s) = FoundAt q x p rs k o s.at s.off
+Says kind q x p d rs k o (Err s) = MissingAt kind q x p d rs k o s.at s.off
 
 module _ (kind : ℕ → ℕ) (n : ℕ) (q : Path) (x : Name) where
   -- at the first entry, or at the end
@@ -127,9 +126,9 @@ module _ (kind : ℕ → ℕ) (n : ℕ) (q : Path) (x : Name) where
   later : (p : Path) (d : Bool) (r : Row) (rs : List Row) (k o : ℕ) (w : Place) → Says kind q x (path_of p r) (eqb (kind r.slot) 1) rs (suc k) (o + length r.name) w
       → Says kind q x p d (r ∷ rs) k o w
   unfolding path_after dir_after name_sum
-  later p d r rs k o (Found j b) f =
+  later p d r rs k o (Ok s) f =
       record { index = suc f.index; at = omega (arith, f.at); within = omega (arith, f.within); offset = omega (arith, f.offset); path = f.path }
-  later p d r rs k o (Missing j b) f =
+  later p d r rs k o (Err s) f =
       record { index = suc f.index; at = omega (arith, f.at); within = omega (arith, f.within); offset = omega (arith, f.offset); fits = f.fits; behind = f.behind }
 
   -- one entry, and what the scan behind it says
@@ -152,18 +151,18 @@ module _ (kind : ℕ → ℕ) (n : ℕ) (q : Path) (x : Name) where
       more : Fits q x (path_of p r) dir → Says kind q x p d (r ∷ rs) k o on
       more v = later p d r rs k o on (ih v)
 
-      three : r.depth ≡ suc (length q) → (w : Order) → order_of r.name x ≡ w → Says kind q x p d (r ∷ rs) k o (by_order w on (Found k o) (Missing k o))
+      three : r.depth ≡ suc (length q) → (w : Ordering) → order_of r.name x ≡ w → Says kind q x p d (r ∷ rs) k o (by_order w on (Ok (spot k o)) (Err (spot k o)))
       three e Less w = more (rw e (fits-lesser q x p d u r.name dir (of_true (before_of_less r.name x w))))
-      three e Same w = found p r rs k o (rw e (child q x p d u r.name ∙ ap (λ (v : Name). q ++ (v ∷ [])) (same_of_same r.name x w)))
-      three e More w = here p d (r ∷ rs) k o u (rw e (stands q x x r.name false (of_true (behind_of_more r.name x w))))
+      three e Equal w = found p r rs k o (rw e (child q x p d u r.name ∙ ap (λ (v : Name). q ++ (v ∷ [])) (same_of_same r.name x w)))
+      three e Greater w = here p d (r ∷ rs) k o u (rw e (stands q x x r.name false (of_true (behind_of_more r.name x w))))
 
       two : length q < r.depth → (b : Bool) → eqb r.depth (suc (length q)) ≡ b
-          → Says kind q x p d (r ∷ rs) k o (pick_place b (by_order (order_of r.name x) on (Found k o) (Missing k o)) on)
+          → Says kind q x p d (r ∷ rs) k o (cond b (by_order (order_of r.name x) on (Ok (spot k o)) (Err (spot k o))) on)
       two l true e = three (eqb-true r.depth (suc (length q)) e) (order_of r.name x) refl
       two l false e = more (fits-deeper q x p d u kind n r dir (let z = eqb-false r.depth (suc (length q)) e in omega (arith, l, z)) t)
 
       one : (b : Bool) → leb r.depth (length q) ≡ b
-          → Says kind q x p d (r ∷ rs) k o (pick_place b (Missing k o) (pick_place (eqb r.depth (suc (length q))) (by_order (order_of r.name x) on (Found k o) (Missing k o)) on))
+          → Says kind q x p d (r ∷ rs) k o (cond b (Err (spot k o)) (cond (eqb r.depth (suc (length q))) (by_order (order_of r.name x) on (Ok (spot k o)) (Err (spot k o))) on))
       one true e = here p d (r ∷ rs) k o u (behind-out q x p d u r.name r.depth (leb-true r.depth (length q) e) (follows_by p d r.depth r.name t))
       one false e = two (leb-false r.depth (length q) e) (eqb r.depth (suc (length q))) refl
 

@@ -2,6 +2,7 @@
 -- missing no entry has the path, and a new entry may stand there.
 -- Assumes nothing.
 use mathlib.Core.Bool.{Bool, true, false}
+use Rattle.std.specs.Prelude.{Ok, Err}
 use mathlib.Core.List.{List, [], ◌∷◌, ◌++◌}
 use mathlib.Core.Option.{none, some}
 use mathlib.Core.Path.{◌≡◌, sym, ap, ◌∙◌, subst}
@@ -23,9 +24,7 @@ use Rattle.layout.proofs.Named.{name_sum, name-offset}
 use Rattle.layout.specs.Parts.{path_after, dir_after, Behind, Between}
 use Rattle.layout.proofs.Edited.Parted.{after_both, dir_both}
 use Rattle.layout.proofs.Edited.Gaps.{gap_none}
-use Rattle.ask_find.specs.declared.Place.{Place}
-use Rattle.ask_find.specs.declared.Place.TheVariants.{Found, Missing}
-use Rattle.ask_find.specs.Finds.{find_in}
+use Rattle.ask_find.specs.Finds.{Place, spot, find_in}
 use Rattle.ask_find.specs.Paths.{slot_at, path_at}
 use Rattle.ask_find.proofs.Finding.{MissingAt, Says, fits_first, scans}
 use Rattle.ask_find.proofs.Records.{rows_long, total-live, walk-behind, dir-next, slot-low, path-look, path-slot, path-depth}
@@ -79,9 +78,9 @@ module _ (st : Store) (l : Lawful st) (i : ℕ) (h : i < count st) (d : kind_at 
   behind-long : suc i + length behind ≡ count st
   behind-long = omega (arith, h, length-drop (suc i) (rows_of st), rows_long st l)
 
-  pub found-slot : (j b : ℕ) → Found j b ≡ asked → FoundSlot st i x j b
+  pub found-slot : (j b : ℕ) → Ok (spot j b) ≡ asked → FoundSlot st i x j b
   found-slot j b z =
-      let f = says (Found j b) z in
+      let f = says (Ok (spot j b)) z in
       let g : j < count st = omega (arith, f.at, f.within, behind-long) in
       let k : suc j ≡ suc i + suc f.index = omega (arith, f.at) in
       let p : path_at st j ≡ q ++ (x ∷ []) =
@@ -115,9 +114,9 @@ module _ (st : Store) (l : Lawful st) (i : ℕ) (h : i < count st) (d : kind_at 
       ∙ gap_none (kind_at st) n (take j (rows_of st)) (drop j (rows_of st)) q x g (node_at st) (subst (λ (rs : List Row). T (rows_ok (kind_at st) n rs)) (sym (take-append-drop j (rows_of st))) l.entries) (slot_at st i) (slot-low st l i h)
       (λ z. omega (arith, a, ap length z, length-take-le j (rows_of st) (omega (arith, b, rows_long st l))))
 
-  pub missing-gap : (j b : ℕ) → Missing j b ≡ asked → MissingGap st i x j b
+  pub missing-gap : (j b : ℕ) → Err (spot j b) ≡ asked → MissingGap st i x j b
   missing-gap j b z =
-      let m = says (Missing j b) z in
+      let m = says (Err (spot j b)) z in
       let a : i < j = omega (arith, m.at) in
       let c : j ≤ count st = omega (arith, m.at, m.within, behind-long) in
       record {

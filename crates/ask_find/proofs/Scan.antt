@@ -3,6 +3,7 @@
 -- Assumes nothing.
 use mathlib.Core.Bool.{Bool, true, false, not, ◌||◌}
 use mathlib.Core.Path.{◌≡◌, refl, sym}
+use Rattle.std.specs.Prelude.{Ok, Err}
 use mathlib.Core.List.{List}
 use Prim.Native.Nat.{ℕ, suc, ◌+◌, ◌-◌, ◌≤◌, ◌<◌}
 use native.Mathlib.Omega.{arith}
@@ -15,10 +16,9 @@ use Rattle.layout.specs.Fields.{depth_of, nlen_of}
 use Rattle.layout.specs.Rows.{rows, name_total}
 use Rattle.layout.proofs.Named.{total-split, rows_drop}
 use Rattle.name_order.specs.Order.{order_of, number}
-use Rattle.name_order.specs.declared.Order.TheVariants.{Less, Same, More}
+use Rattle.std.specs.declared.cmp.Ordering.TheVariants.{Less, Equal, Greater}
 use Rattle.name_order.proofs.Keys.{key-less}
-use Rattle.ask_find.specs.Finds.{find_in, scan}
-use Rattle.ask_find.specs.declared.Place.TheVariants.{Found, Missing}
+use Rattle.ask_find.specs.Finds.{spot, find_in, scan}
 use Rattle.ask_find.proofs.Reading.{from, from_at, from_end_lem, names_at, name-length}
 
 -- what the scan starts with
@@ -33,7 +33,7 @@ scan-start ws bs n d x j o l e h =
     let a : name_total (take j ws) ≡ o = sym e in
     record { room = omega (arith, e, h, rw t at (total-split (take n ws) j)); same = rw (sym (rows_drop (take n ws) bs j), t, a) }
 
-pub scan-end : (ws : List ℕ) (bs : Bytes) (n d : ℕ) (x : Bytes) (j o : ℕ) → n ≤ length ws → n ≤ j → scan ws bs n d x j o ≡ Missing j o
+pub scan-end : (ws : List ℕ) (bs : Bytes) (n d : ℕ) (x : Bytes) (j o : ℕ) → n ≤ length ws → n ≤ j → scan ws bs n d x j o ≡ Err (spot j o)
 unfolding find_in rows
 scan-end ws bs n d x j o h l = rw (from_end_lem ws n j h l)
 
@@ -43,7 +43,7 @@ pub scan-room : (ws : List ℕ) (bs : Bytes) (n j o : ℕ) → n ≤ length ws �
 scan-room ws bs n j o h l k = omega (arith, names_at ws n j h l, k)
 
 module _ (ws : List ℕ) (bs : Bytes) (n d : ℕ) (x : Bytes) (j o : ℕ) (h : n ≤ length ws) (l : j < n) where
-  pub scan_out : depth_of (get_or ws j 0) ≤ d → scan ws bs n d x j o ≡ Missing j o
+  pub scan_out : depth_of (get_or ws j 0) ≤ d → scan ws bs n d x j o ≡ Err (spot j o)
   unfolding find_in rows
   scan_out k = rw (from_at ws n j h l, le-leb (depth_of (get_or ws j 0)) d k)
 
@@ -73,10 +73,10 @@ module _ (ws : List ℕ) (bs : Bytes) (n d : ℕ) (x : Bytes) (j o : ℕ) (h : n
             (key-less bs x o (nlen_of (get_or ws j 0)) f g (omega (arith, scan-room ws bs n j o h l r)) (omega (arith, e, s (not-false b z))))
         go false y z = scan-deeper i (λ u. eqb-false (depth_of (get_or ws j 0) - d) 1 y (omega (arith, u)))
 
-  pub scan_same : depth_of (get_or ws j 0) ≡ suc d → order_of (take (nlen_of (get_or ws j 0)) (drop o bs)) x ≡ Same → scan ws bs n d x j o ≡ Found j o
+  pub scan_same : depth_of (get_or ws j 0) ≡ suc d → order_of (take (nlen_of (get_or ws j 0)) (drop o bs)) x ≡ Equal → scan ws bs n d x j o ≡ Ok (spot j o)
   unfolding find_in rows
   scan_same k m = rw (from_at ws n j h l, lt-leb (depth_of (get_or ws j 0)) d (omega arith), eq-eqb (depth_of (get_or ws j 0)) (suc d) k, m)
 
-  pub scan_more : depth_of (get_or ws j 0) ≡ suc d → order_of (take (nlen_of (get_or ws j 0)) (drop o bs)) x ≡ More → scan ws bs n d x j o ≡ Missing j o
+  pub scan_more : depth_of (get_or ws j 0) ≡ suc d → order_of (take (nlen_of (get_or ws j 0)) (drop o bs)) x ≡ Greater → scan ws bs n d x j o ≡ Err (spot j o)
   unfolding find_in rows
   scan_more k m = rw (from_at ws n j h l, lt-leb (depth_of (get_or ws j 0)) d (omega arith), eq-eqb (depth_of (get_or ws j 0)) (suc d) k, m)

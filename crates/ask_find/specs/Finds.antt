@@ -1,35 +1,37 @@
 -- Where a name stands in a directory.
 -- Assumes nothing.
-use Rattle.std.specs.Prelude.{Bool, true, false, List, [], ◌∷◌, ◌≡◌, ℕ, suc, ◌+◌, ◌≤◌, ◌<◌, leb, eqb, length, take, drop, get_or}
+use Rattle.std.specs.Prelude.{cond, Result, Ok, Err, List, [], ◌∷◌, ◌≡◌, ℕ, suc, ◌+◌, ◌≤◌, ◌<◌, leb, eqb, length, take, drop, get_or}
 use Rattle.text.specs.Utf8.{Bytes}
 use Rattle.path.specs.Path.{Name}
 use Rattle.layout.specs.Fields.{depth_of}
 use Rattle.layout.specs.Rows.{Row, name_total, rows}
 use Rattle.name_order.specs.Order.{order_of, number}
-use Rattle.name_order.specs.declared.Order.{Order}
-use Rattle.name_order.specs.declared.Order.TheVariants.{Less, Same, More}
-use Rattle.ask_find.specs.declared.Place.{Place}
-use Rattle.ask_find.specs.declared.Place.TheVariants.{Found, Missing}
+use Rattle.std.specs.declared.cmp.Ordering.{Ordering}
+use Rattle.std.specs.declared.cmp.Ordering.TheVariants.{Less, Equal, Greater}
+use Rattle.ask_find.specs.declared.Spot.{Spot}
 
--- the one that holds, or the other
-abbrev pub pick_place : Bool → Place → Place → Place
-pick_place true a b = a
-pick_place false a b = b
+-- where an entry stands, or where it would: the record, and the offset of the name
+abbrev pub Place : Type 0
+Place = Result Spot Spot
+
+-- record k, whose name stands at offset o
+abbrev pub spot : ℕ → ℕ → Spot
+spot k o = record { at = k; off = o }
 
 -- by the order of an entry's name and the name that is looked for
-abbrev pub by_order : Order → Place → Place → Place → Place
+abbrev pub by_order : Ordering → Place → Place → Place → Place
 by_order Less a b c = a
-by_order Same a b c = b
-by_order More a b c = c
+by_order Equal a b c = b
+by_order Greater a b c = c
 
 -- Where the entry x of a directory of depth d stands among the entries behind the directory, or where it would; k and o are the
 -- place of the first of them and the offset of its name.
 unfoldable pub find_in : ℕ → Name → List Row → ℕ → ℕ → Place
-find_in d x [] k o = Missing k o
+find_in d x [] k o = Err (spot k o)
 find_in d x (r ∷ rs) k o =
-    pick_place (leb r.depth d) (Missing k o)
-    (pick_place (eqb r.depth (suc d))
-    (by_order (order_of r.name x) (find_in d x rs (suc k) (o + length r.name)) (Found k o) (Missing k o))
+    cond (leb r.depth d) (Err (spot k o))
+    (cond (eqb r.depth (suc d))
+    (by_order (order_of r.name x) (find_in d x rs (suc k) (o + length r.name)) (Ok (spot k o)) (Err (spot k o)))
     (find_in d x rs (suc k) (o + length r.name)))
 
 -- the same among the records of the first n that stand from record j on, the first name of which stands at offset o

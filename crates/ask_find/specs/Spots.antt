@@ -1,6 +1,6 @@
 -- Entries of a store by value: the entry at a path, and the place of one that is missing.
 -- Assumes nothing.
-use Rattle.std.specs.Prelude.{List, [], ◌∷◌, ◌++◌, ◌≡◌, ℕ, suc, ◌+◌, ◌≤◌, ◌<◌, length, take, drop, get_or}
+use Rattle.std.specs.Prelude.{Result, Ok, Err, List, [], ◌∷◌, ◌++◌, ◌≡◌, ℕ, suc, ◌+◌, ◌≤◌, ◌<◌, length, take, drop, get_or}
 use Rattle.std.proofs.Math.Option.{none, some}
 use Rattle.text.specs.Utf8.{Bytes}
 use Rattle.path.specs.Path.{Name}
@@ -16,8 +16,6 @@ use Rattle.ask_find.specs.Paths.{path_at}
 use Rattle.ask_find.specs.Spans.{span}
 use Rattle.ask_find.specs.declared.Spot.{Spot}
 use Rattle.ask_find.specs.declared.Gap.{Gap}
-use Rattle.ask_find.specs.declared.Look.{Look}
-use Rattle.ask_find.specs.declared.Look.TheVariants.{Found, Missing}
 
 -- the spot is the entry at the path
 pub record At (st : Store) (s : Spot) (p : Path) : Type 0 where
@@ -75,20 +73,20 @@ pub record Vacant (st : Store) (h : ℕ) (p : Path) (x : Name) (g : Gap) : Type 
 -- ---- answers
 
 -- what is said of the entry x of the directory p
-abbrev pub Looks : Store → ℕ → Entries → Path → Name → Look → Type 0
-Looks st h t p x (Found s) = Seen st h t (p ++ (x ∷ [])) s
-Looks st h t p x (Missing g) = (look t (p ++ (x ∷ [])) ≡ none) × Vacant st h p x g
+abbrev pub Looks : Store → ℕ → Entries → Path → Name → Result Spot Gap → Type 0
+Looks st h t p x (Ok s) = Seen st h t (p ++ (x ∷ [])) s
+Looks st h t p x (Err g) = (look t (p ++ (x ∷ [])) ≡ none) × Vacant st h p x g
 
 -- the entry x of the directory at the spot s, where record h counts as not there
-abbrev pub ChildIs : List ℕ → Bytes → ℕ → Spot → Name → ℕ → Look → Type 0
+abbrev pub ChildIs : List ℕ → Bytes → ℕ → Spot → Name → ℕ → Result Spot Gap → Type 0
 ChildIs ws bs n s x h r =
     (st : Store) → st.records ≡ ws → st.bytes ≡ bs → count st ≡ n → Lawful st → (p : Path) (t : Entries) → At st s p → Hides st h p t → Directory st p → Looks st h t p x r
 
 -- what is said of the root
-abbrev pub Rooted : Store → Look → Type 0
-Rooted st (Found s) = (h : ℕ) (t : Entries) → Hides st h [] t → Seen st h t [] s
-Rooted st (Missing g) = (look (state st).tree [] ≡ none) × (count st ≡ 0)
+abbrev pub Rooted : Store → Result Spot Gap → Type 0
+Rooted st (Ok s) = (h : ℕ) (t : Entries) → Hides st h [] t → Seen st h t [] s
+Rooted st (Err g) = (look (state st).tree [] ≡ none) × (count st ≡ 0)
 
 -- the root, which a fresh tree has not
-abbrev pub RootIs : ℕ → Look → Type 0
+abbrev pub RootIs : ℕ → Result Spot Gap → Type 0
 RootIs n r = (st : Store) → count st ≡ n → Lawful st → Rooted st r

@@ -8,7 +8,8 @@ ghost use Rattle.ask_find.specs.Spots.{Held, ChildIs, RootIs};
 ghost use Rattle.ask_find.specs.Spans.{span};
 
 use layout::{depth_of, nlen_of};
-use name_order::{Order, compare, key, word};
+use name_order::{compare, key, word};
+use std::cmp::Ordering;
 
 // An entry: its record, and the offset of its name.
 #[derive(Clone, Copy)]
@@ -17,33 +18,25 @@ pub struct Spot {
     pub off: usize,
 }
 
+impl Spot {
+    // An entry of that depth may stand before the record.
+    fn gap(self, depth: usize) -> Gap
+        ensures { result ≡ record { at = self.at; off = self.off; depth = depth } }
+    {
+        Gap {
+            at: self.at,
+            off: self.off,
+            depth,
+        }
+    }
+}
+
 // Where a missing entry would stand: before that record, with its name at that offset, at that depth.
 #[derive(Clone, Copy)]
 pub struct Gap {
     pub at: usize,
     pub off: usize,
     pub depth: usize,
-}
-
-// An entry, or where it would stand.
-#[derive(Drop)]
-pub enum Look {
-    Found(Spot),
-    Missing(Gap),
-}
-
-// The record of an entry, or of the one before which it would stand, and the offset of its name.
-#[derive(Drop)]
-enum Place {
-    Found { at: usize, off: usize },
-    Missing { at: usize, off: usize },
-}
-
-// A record, and the offset of its name.
-#[derive(Drop)]
-struct Reached {
-    at: usize,
-    off: usize,
 }
 
 // Whether the eight bytes at o are there, and less than those of the key.
@@ -67,7 +60,7 @@ fn pass(
     start: usize,
     off: usize,
     key: u64,
-) -> Reached
+) -> Spot
     requires { Within records.now bytes.now count start off }
     ensures { Passed records.now bytes.now count d key start off result.at result.off }
 {
@@ -77,16 +70,16 @@ fn pass(
         let w = records[j];
         let t = depth_of(w);
         if t <= d {
-            return Reached { at: j, off: o };
+            return Spot { at: j, off: o };
         }
         let less = starts_less(bytes, o, key);
         if !((t - d != 1) | less) {
-            return Reached { at: j, off: o };
+            return Spot { at: j, off: o };
         }
         j += 1;
         o += nlen_of(w);
     }
-    Reached { at: j, off: o }
+    Spot { at: j, off: o }
 }
 
 // Where the entry `name` of a directory of depth d stands, from record `start` on, whose name stands at off. What lies deeper
@@ -99,7 +92,7 @@ fn find_from(
     start: usize,
     off: usize,
     name: &[u8],
-) -> Place
+) -> Result<Spot, Spot>
     requires { Within records.now bytes.now count start off }
     ensures { result ≡ scan records.now bytes.now count d name.now start off }
 {
@@ -109,7 +102,7 @@ fn find_from(
         let w = records[j];
         let t = depth_of(w);
         if t <= d {
-            return Place::Missing { at: j, off: o };
+            return Err(Spot { at: j, off: o });
         }
         let e = o + nlen_of(w);
         if t - d != 1 {
@@ -118,18 +111,18 @@ fn find_from(
             continue;
         }
         match compare(&bytes[o..e], name) {
-            Order::Less => {}
-            Order::Same => {
-                return Place::Found { at: j, off: o };
+            Ordering::Less => {}
+            Ordering::Equal => {
+                return Ok(Spot { at: j, off: o });
             }
-            Order::More => {
-                return Place::Missing { at: j, off: o };
+            Ordering::Greater => {
+                return Err(Spot { at: j, off: o });
             }
         }
         j += 1;
         o = e;
     }
-    Place::Missing { at: j, off: o }
+    Err(Spot { at: j, off: o })
 }
 
 // Where the entry `name` of the directory at record dir stands; off is the offset of the name of record dir + 1.
@@ -140,7 +133,7 @@ fn find_child(
     dir: usize,
     off: usize,
     name: &[u8],
-) -> Place
+) -> Result<Spot, Spot>
     requires { Around records.now bytes.now count dir off }
     ensures { result ≡ find_child records.now bytes.now count dir off name.now }
 {
@@ -158,7 +151,7 @@ pub fn child(
     dir: Spot,
     name: &[u8],
     hidden: usize,
-) -> Look
+) -> Result<Spot, Gap>
     requires { Held records.now bytes.now count dir }
     ensures { ChildIs records.now bytes.now count dir name.now hidden result }
 {
@@ -166,28 +159,24 @@ pub fn child(
     let w = records[i];
     let depth = depth_of(w) + 1;
     match find_child(records, bytes, count, i, dir.off + nlen_of(w), name) {
-        Place::Found { at, off } => {
-            if at == hidden {
-                return Look::Missing(Gap { at, off, depth });
-            }
-            Look::Found(Spot { at, off })
-        }
-        Place::Missing { at, off } => Look::Missing(Gap { at, off, depth }),
+        Ok(spot) if spot.at != hidden => Ok(spot),
+        Ok(spot) => Err(spot.gap(depth)),
+        Err(spot) => Err(spot.gap(depth)),
     }
 }
 
 // The root.
-pub fn root(count: usize) -> Look
+pub fn root(count: usize) -> Result<Spot, Gap>
     ensures { RootIs count result }
 {
     if count == 0 {
-        return Look::Missing(Gap {
+        return Err(Gap {
             at: 0,
             off: 0,
             depth: 0,
         });
     }
-    Look::Found(Spot { at: 0, off: 0 })
+    Ok(Spot { at: 0, off: 0 })
 }
 
 // The record behind all that lies below record i.

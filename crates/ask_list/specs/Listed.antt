@@ -1,6 +1,6 @@
 -- The entries of a directory among those behind it, what a listing shows of them, and what the functions tell of the model's listing.
 -- Assumes nothing.
-use Rattle.std.specs.Prelude.{Bool, cond, List, [], ◌∷◌, ◌++◌, ◌≡◌, ℕ, suc, ◌+◌, ◌≤◌, leb, eqb, length, take, drop}
+use Rattle.std.specs.Prelude.{Bool, cond, Option, Some, None, List, [], ◌∷◌, ◌++◌, ◌≡◌, ℕ, suc, ◌+◌, ◌≤◌, leb, eqb, length, take, drop}
 use Rattle.std.proofs.Math.Option.{some}
 use Rattle.text.specs.Utf8.{Bytes}
 use Rattle.path.specs.Path.{Name}
@@ -14,8 +14,6 @@ use Rattle.layout.specs.Lawful.{Lawful}
 use Rattle.ask_find.specs.declared.Spot.{Spot}
 use Rattle.ask_find.specs.Paths.{path_at}
 use Rattle.ask_find.specs.Spots.{At, Held}
-use Rattle.ask_list.specs.declared.Step.{Step}
-use Rattle.ask_list.specs.declared.Step.TheVariants.{Entry, End}
 
 -- the listing of the directory at record i
 abbrev pub listing_at : Store → ℕ → List (Name × Stat)
@@ -104,14 +102,14 @@ pub record Leads (st : Store) (p : Path) (s : Spot) (l : List (Name × Stat)) : 
   pub told : answer (stat? (p ++ (name ∷ []))) (world_of (state st)) ≡ some stat
 
 -- the first of a listing, or that there is none
-abbrev pub Rest : Store → Path → List (Name × Stat) → Step → Type 0
-Rest st p l (Entry s) = Leads st p s l
-Rest st p l End = l ≡ []
+abbrev pub Rest : Store → Path → List (Name × Stat) → Option Spot → Type 0
+Rest st p l (Some s) = Leads st p s l
+Rest st p l None = l ≡ []
 
 -- the first entry of the directory at the spot
-abbrev pub FirstIs : List ℕ → ℕ → Spot → Step → Type 0
+abbrev pub FirstIs : List ℕ → ℕ → Spot → Option Spot → Type 0
 FirstIs ws n s r = Told ws n s (λ st p. Rest st p (listing_of st p) r)
 
 -- the entry behind the one at the spot, in its directory
-abbrev pub NextIs : List ℕ → ℕ → Spot → Step → Type 0
+abbrev pub NextIs : List ℕ → ℕ → Spot → Option Spot → Type 0
 NextIs ws n s r = Told ws n s (λ st o. (p : Path) (x : Name) → o ≡ p ++ (x ∷ []) → Rest st p (behind_in st p s) r)

@@ -9,13 +9,6 @@ ghost use Rattle.ask_list.specs.Listed.{TellsBare, TellsCount, TellsLength, Tell
 use ask_find::Spot;
 use layout::{depth_of, nlen_of};
 
-// An entry of a directory, or that no other follows.
-#[derive(Drop)]
-pub enum Step {
-    Entry(Spot),
-    End,
-}
-
 // Whether the directory at the spot has none: the next record is not deeper.
 pub fn is_bare(records: &[u64], count: usize, spot: Spot) -> bool
     requires { Placed records.now count spot }
@@ -30,25 +23,25 @@ pub fn is_bare(records: &[u64], count: usize, spot: Spot) -> bool
 }
 
 // The first entry of the directory at the spot: the next record, if it is deeper.
-pub fn first(records: &[u64], count: usize, spot: Spot) -> Step
+pub fn first(records: &[u64], count: usize, spot: Spot) -> Option<Spot>
     requires { Placed records.now count spot }
     ensures { FirstIs records.now count spot result }
 {
     let i = spot.at;
     let j = i + 1;
     if count <= j {
-        return Step::End;
+        return None;
     }
     let w = records[i];
     if depth_of(records[j]) <= depth_of(w) {
-        return Step::End;
+        return None;
     }
     let off = spot.off + nlen_of(w);
-    Step::Entry(Spot { at: j, off })
+    Some(Spot { at: j, off })
 }
 
 // The entry behind the one at the spot, in the same directory. What lies below it is passed.
-pub fn next(records: &[u64], count: usize, spot: Spot) -> Step
+pub fn next(records: &[u64], count: usize, spot: Spot) -> Option<Spot>
     requires { Placed records.now count spot }
     ensures { NextIs records.now count spot result }
 {
@@ -61,15 +54,15 @@ pub fn next(records: &[u64], count: usize, spot: Spot) -> Step
         let v = records[j];
         let t = depth_of(v);
         if t < d {
-            return Step::End;
+            return None;
         }
         if t == d {
-            return Step::Entry(Spot { at: j, off: o });
+            return Some(Spot { at: j, off: o });
         }
         j += 1;
         o += nlen_of(v);
     }
-    Step::End
+    None
 }
 
 // How many entries the directory at the spot has.

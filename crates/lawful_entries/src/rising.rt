@@ -2,15 +2,11 @@
 ghost use Rattle.std.specs.Prelude.{◌≡◌};
 ghost use Rattle.model.specs.Tree.{precedes};
 
-use name_order::{Order, compare};
+use name_order::compare;
 
 // Whether the name a is before b.
 pub fn rises(a: &[u8], b: &[u8]) -> bool
     ensures { result ≡ precedes a.now b.now }
 {
-    match compare(a, b) {
-        Order::Less => true,
-        Order::Same => false,
-        Order::More => false,
-    }
+    compare(a, b).is_lt()
 }

@@ -13,7 +13,7 @@ use borrow.Author.Tests.{ltb-true, ltb-false}
 use Rattle.text.specs.Utf8.{Bytes}
 use Rattle.model.proofs.Ordering.{Sides, less, equal, more, sides}
 use Rattle.name_order.specs.Order.{order_of, number}
-use Rattle.name_order.specs.declared.Order.TheVariants.{Less}
+use Rattle.std.specs.declared.cmp.Ordering.TheVariants.{Less}
 use Rattle.name_order.proofs.Orders.{order-short, order-less, order_next}
 
 -- the first byte in which s from i on differs from t from j on is less in s

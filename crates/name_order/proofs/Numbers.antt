@@ -13,7 +13,7 @@ use borrow.Author.Tests.{lt-ltb, le-ltb, ltb-true, ltb-false}
 use Rattle.text.specs.Utf8.{Bytes}
 use Rattle.model.proofs.Ordering.{Sides, less, equal, more, sides}
 use Rattle.name_order.specs.Order.{order_of, number, length_order, Shorter}
-use Rattle.name_order.specs.declared.Order.TheVariants.{Less, Same, More}
+use Rattle.std.specs.declared.cmp.Ordering.TheVariants.{Less, Equal, Greater}
 use Rattle.name_order.proofs.Orders.{order-end, order-short, order-long, order-less, order_more, order_next}
 
 -- ---- longer runs from shorter ones
@@ -47,7 +47,7 @@ Level a b i = (m : ℕ) → m ≤ i → order_of a b ≡ order_of (drop m a) (dr
 -- what the k bytes from i on say
 data Lead (a b : Bytes) (i k : ℕ) : Type 0 where
   below : number k i a < number k i b → order_of a b ≡ Less → Lead a b i k
-  above : number k i b < number k i a → order_of a b ≡ More → Lead a b i k
+  above : number k i b < number k i a → order_of a b ≡ Greater → Lead a b i k
   level : number k i a ≡ number k i b → Level a b (i + k) → Lead a b i k
 
 pub level-back : (a b : Bytes) (i e : ℕ) → e ≤ i → Level a b i → Level a b e
@@ -90,10 +90,10 @@ module _ (a b : Bytes) (i : ℕ) (f : (m : ℕ) → get_or a m 0 < 256) (g : (m 
         go (above e v) = absurd (omega (arith, e, z))
         go (level e v) = absurd (omega (arith, e, z))
 
-    pub run_more : number k i b < number k i a → order_of a b ≡ More
+    pub run_more : number k i b < number k i a → order_of a b ≡ Greater
     run_more z = go (lead k l m)
       where
-        go : Lead a b i k → order_of a b ≡ More
+        go : Lead a b i k → order_of a b ≡ Greater
         go (below e v) = absurd (omega (arith, e, z))
         go (above e v) = v
         go (level e v) = absurd (omega (arith, e, z))
@@ -112,11 +112,11 @@ pub length-less : (x y : ℕ) → x < y → Less ≡ length_order x y
 unfolding length_order
 length-less x y l = rw (lt-ltb x y l)
 
-pub length_more : (x y : ℕ) → y < x → More ≡ length_order x y
+pub length_more : (x y : ℕ) → y < x → Greater ≡ length_order x y
 unfolding length_order
 length_more x y l = rw (le-ltb x y (omega (arith, l)), lt-ltb y x l)
 
-pub length_same : (x y : ℕ) → y ≤ x → x ≤ y → Same ≡ length_order x y
+pub length_same : (x y : ℕ) → y ≤ x → x ≤ y → Equal ≡ length_order x y
 unfolding length_order
 length_same x y l m = rw (le-ltb x y l, le-ltb y x m)
 

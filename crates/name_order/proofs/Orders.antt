@@ -1,5 +1,5 @@
 -- The order of names by cases. Two names are compared by their first bytes, and where these are the same by the rest; so the
--- answer is Same for no two different names, and the other two answers exclude each other.
+-- answer is Equal for no two different names, and the other two answers exclude each other.
 -- Assumes nothing.
 use mathlib.Core.Bool.{Bool, true, false, not, false≢true}
 use mathlib.Core.Path.{◌≡◌, refl, sym, ap, ◌∙◌}
@@ -13,8 +13,8 @@ use Rattle.model.specs.Tree.{precedes}
 use Rattle.model.proofs.Entries.{name-dec}
 use Rattle.model.proofs.Ordering.{cons-less, cons-equal, one_way, not_itself, joins}
 use Rattle.name_order.specs.Order.{order_of}
-use Rattle.name_order.specs.declared.Order.{Order}
-use Rattle.name_order.specs.declared.Order.TheVariants.{Less, Same, More}
+use Rattle.std.specs.declared.cmp.Ordering.{Ordering}
+use Rattle.std.specs.declared.cmp.Ordering.TheVariants.{Less, Equal, Greater}
 
 -- ---- what stands before what
 
@@ -32,11 +32,11 @@ pub order_of_before : (x y : Bytes) → precedes x y ≡ true → order_of x y �
 unfolding order_of
 order_of_before x y h = rw h
 
-pub order_of_behind : (x y : Bytes) → precedes y x ≡ true → order_of x y ≡ More
+pub order_of_behind : (x y : Bytes) → precedes y x ≡ true → order_of x y ≡ Greater
 unfolding order_of
 order_of_behind x y h = rw (asymmetric y x h, h)
 
-pub order_of_same : (x : Bytes) → order_of x x ≡ Same
+pub order_of_same : (x : Bytes) → order_of x x ≡ Equal
 unfolding order_of
 order_of_same x = rw (not_itself x)
 
@@ -63,21 +63,21 @@ compared x y = go (name-dec x y)
     go (yes e) = alike e
     go (no n) = by n (precedes y x) refl
 
-abbrev number : Order → ℕ
+abbrev number : Ordering → ℕ
 number Less = 0
-number Same = 1
-number More = 2
+number Equal = 1
+number Greater = 2
 
-less_same : Less ≡ Same → ⊥
+less_same : Less ≡ Equal → ⊥
 less_same e = let z : ◌≡◌ {A = ℕ} 0 1 = ap number e in omega (arith, z)
 
-less_more : Less ≡ More → ⊥
+less_more : Less ≡ Greater → ⊥
 less_more e = let z : ◌≡◌ {A = ℕ} 0 2 = ap number e in omega (arith, z)
 
-more_same : More ≡ Same → ⊥
+more_same : Greater ≡ Equal → ⊥
 more_same e = let z : ◌≡◌ {A = ℕ} 2 1 = ap number e in omega (arith, z)
 
--- the answer Less, Same, More says which
+-- the answer Less, Equal, Greater says which
 pub before_of_less : (x y : Bytes) → order_of x y ≡ Less → precedes x y ≡ true
 before_of_less x y h = go (compared x y)
   where
@@ -86,7 +86,7 @@ before_of_less x y h = go (compared x y)
     go (alike k) = absurd (less_same (sym h ∙ ap (order_of x) (sym k) ∙ order_of_same x))
     go (above k) = absurd (less_more (sym h ∙ order_of_behind x y k))
 
-pub same_of_same : (x y : Bytes) → order_of x y ≡ Same → x ≡ y
+pub same_of_same : (x y : Bytes) → order_of x y ≡ Equal → x ≡ y
 same_of_same x y h = go (compared x y)
   where
     go : Compared x y → x ≡ y
@@ -94,7 +94,7 @@ same_of_same x y h = go (compared x y)
     go (alike k) = k
     go (above k) = absurd (more_same (sym (order_of_behind x y k) ∙ h))
 
-pub behind_of_more : (x y : Bytes) → order_of x y ≡ More → precedes y x ≡ true
+pub behind_of_more : (x y : Bytes) → order_of x y ≡ Greater → precedes y x ≡ true
 behind_of_more x y h = go (compared x y)
   where
     go : Compared x y → precedes y x ≡ true
@@ -105,21 +105,21 @@ behind_of_more x y h = go (compared x y)
 -- ---- the steps of a comparison
 
 module _ (a b : Bytes) (i : ℕ) where
-  pub order-end : length a ≤ i → length b ≤ i → order_of (drop i a) (drop i b) ≡ Same
+  pub order-end : length a ≤ i → length b ≤ i → order_of (drop i a) (drop i b) ≡ Equal
   order-end h k = rw (drop_of_length-le a h, drop_of_length-le b k) (order_of_same [])
 
   pub order-short : length a ≤ i → i < length b → order_of (drop i a) (drop i b) ≡ Less
   unfolding order_of precedes
   order-short h k = rw (drop_of_length-le a h, drop-cons b i 0 k)
 
-  pub order-long : i < length a → length b ≤ i → order_of (drop i a) (drop i b) ≡ More
+  pub order-long : i < length a → length b ≤ i → order_of (drop i a) (drop i b) ≡ Greater
   unfolding order_of precedes
   order-long h k = rw (drop-cons a i 0 h, drop_of_length-le b k)
 
   pub order-less : i < length a → i < length b → get_or a i 0 < get_or b i 0 → order_of (drop i a) (drop i b) ≡ Less
   order-less h k l = rw (drop-cons a i 0 h, drop-cons b i 0 k) (order_of_before _ _ (cons-less _ _ _ _ l))
 
-  pub order_more : i < length a → i < length b → get_or b i 0 < get_or a i 0 → order_of (drop i a) (drop i b) ≡ More
+  pub order_more : i < length a → i < length b → get_or b i 0 < get_or a i 0 → order_of (drop i a) (drop i b) ≡ Greater
   order_more h k l = rw (drop-cons a i 0 h, drop-cons b i 0 k) (order_of_behind _ _ (cons-less _ _ _ _ l))
 
   pub order_next : i < length a → i < length b → get_or a i 0 ≡ get_or b i 0

@@ -3,17 +3,17 @@
 use Rattle.std.specs.Prelude.{Bool, true, false, ◌⊎◌, ◌≡◌, ℕ, zero, suc, ◌+◌, ◌*◌, ◌≤◌, ltb, get_or}
 use Rattle.text.specs.Utf8.{Bytes}
 use Rattle.model.specs.Tree.{precedes}
-use Rattle.name_order.specs.declared.Order.{Order}
-use Rattle.name_order.specs.declared.Order.TheVariants.{Less, Same, More}
+use Rattle.std.specs.declared.cmp.Ordering.{Ordering}
+use Rattle.std.specs.declared.cmp.Ordering.TheVariants.{Less, Equal, Greater}
 
 -- the one that holds, or the other
-abbrev pub pick : Bool → Order → Order → Order
+abbrev pub pick : Bool → Ordering → Ordering → Ordering
 pick true a b = a
 pick false a b = b
 
 -- the first is before the second, the second before the first, or neither
-unfoldable pub order_of : Bytes → Bytes → Order
-order_of a b = pick (precedes a b) Less (pick (precedes b a) More Same)
+unfoldable pub order_of : Bytes → Bytes → Ordering
+order_of a b = pick (precedes a b) Less (pick (precedes b a) Greater Equal)
 
 -- n is the lesser of two lengths
 pub record Shorter (x y n : ℕ) : Type 0 where
@@ -22,8 +22,8 @@ pub record Shorter (x y n : ℕ) : Type 0 where
   pub one : (n ≡ x) ⊎ (n ≡ y)
 
 -- the order of names that are the same as far as the shorter goes
-unfoldable pub length_order : ℕ → ℕ → Order
-length_order x y = pick (ltb x y) Less (pick (ltb y x) More Same)
+unfoldable pub length_order : ℕ → ℕ → Ordering
+length_order x y = pick (ltb x y) Less (pick (ltb y x) Greater Equal)
 
 -- k bytes from i on as one number, the first byte the highest
 unfoldable pub number : ℕ → ℕ → Bytes → ℕ

@@ -3,15 +3,10 @@
 ghost use Rattle.std.specs.Prelude.{◌≡◌, ◌+◌, ◌≤◌, ◌<◌, length, get_or};
 ghost use Rattle.name_order.specs.Order.{order_of, number, length_order, Shorter};
 
-#[derive(Drop)]
-pub enum Order {
-    Less,
-    Same,
-    More,
-}
+use std::cmp::Ordering;
 
 // By the first byte in which they differ; a name that ends there is less. Eight bytes at a time, as one number.
-pub fn compare(a: &[u8], b: &[u8]) -> Order
+pub fn compare(a: &[u8], b: &[u8]) -> Ordering
     ensures { result ≡ order_of a.now b.now }
 {
     let n = shorter(a.len(), b.len());
@@ -26,7 +21,7 @@ pub fn compare(a: &[u8], b: &[u8]) -> Order
 
 // The same of names of which the shorter has n bytes, at least eight. The last eight bytes before n may begin before i: what they
 // have there is the same.
-fn compare_long(a: &[u8], b: &[u8], n: usize) -> Order
+fn compare_long(a: &[u8], b: &[u8], n: usize) -> Ordering
     requires { (8 ≤ n) × Shorter (length a.now) (length b.now) n }
     ensures { result ≡ order_of a.now b.now }
 {
@@ -36,86 +31,86 @@ fn compare_long(a: &[u8], b: &[u8], n: usize) -> Order
         let x = word(a, i);
         let y = word(b, i);
         if x < y {
-            return Order::Less;
+            return Ordering::Less;
         }
         if y < x {
-            return Order::More;
+            return Ordering::Greater;
         }
         i += 8;
     }
     let v = word(a, e);
     let w = word(b, e);
     if v < w {
-        return Order::Less;
+        return Ordering::Less;
     }
     if w < v {
-        return Order::More;
+        return Ordering::Greater;
     }
     by_length(a.len(), b.len())
 }
 
 // The same of at least four bytes and at most eight: the first four, and the last four.
-fn compare_short(a: &[u8], b: &[u8], n: usize) -> Order
+fn compare_short(a: &[u8], b: &[u8], n: usize) -> Ordering
     requires { (4 ≤ n) × (n ≤ 8) × Shorter (length a.now) (length b.now) n }
     ensures { result ≡ order_of a.now b.now }
 {
     let x = half(a, 0);
     let y = half(b, 0);
     if x < y {
-        return Order::Less;
+        return Ordering::Less;
     }
     if y < x {
-        return Order::More;
+        return Ordering::Greater;
     }
     let e = n - 4;
     let v = half(a, e);
     let w = half(b, e);
     if v < w {
-        return Order::Less;
+        return Ordering::Less;
     }
     if w < v {
-        return Order::More;
+        return Ordering::Greater;
     }
     by_length(a.len(), b.len())
 }
 
 // The same byte by byte.
-fn compare_bytes(a: &[u8], b: &[u8]) -> Order
+fn compare_bytes(a: &[u8], b: &[u8]) -> Ordering
     ensures { result ≡ order_of a.now b.now }
 {
     let mut i = 0;
     while i < a.len() {
         if b.len() <= i {
-            return Order::More;
+            return Ordering::Greater;
         }
         let x = a[i];
         let y = b[i];
         if x < y {
-            return Order::Less;
+            return Ordering::Less;
         }
         if y < x {
-            return Order::More;
+            return Ordering::Greater;
         }
         i += 1;
     }
     if i < b.len() {
-        Order::Less
+        Ordering::Less
     } else {
-        Order::Same
+        Ordering::Equal
     }
 }
 
 // Of names that are the same as far as the shorter goes.
-fn by_length(x: usize, y: usize) -> Order
+fn by_length(x: usize, y: usize) -> Ordering
     ensures { result ≡ length_order x y }
 {
     if x < y {
-        return Order::Less;
+        return Ordering::Less;
     }
     if y < x {
-        return Order::More;
+        return Ordering::Greater;
     }
-    Order::Same
+    Ordering::Equal
 }
 
 fn shorter(x: usize, y: usize) -> usize

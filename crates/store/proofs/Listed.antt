@@ -17,8 +17,7 @@ use Rattle.layout.specs.Store.{Store}
 use Rattle.layout.specs.Lent.{◌∘◌, with_words, with_records, with_bytes}
 use Rattle.edit_room.specs.Extents.{trim}
 use Rattle.ask_find.specs.declared.Spot.{Spot}
-use Rattle.ask_list.specs.declared.Step.{Step}
-use Rattle.ask_list.specs.declared.Step.TheVariants.{Entry, End}
+use Rattle.std.specs.Prelude.{Option, Some, None}
 use Rattle.ask_list.specs.Listed.{Placed, Roomy, listing_of, Rest}
 use Rattle.store.specs.Shows.{Shows, SomeEntry}
 use Rattle.store.specs.Listing.{listed, StepIs, SomeFitting}
@@ -35,17 +34,17 @@ module _ (u : Store) (s : State) (h : Shows u s) (p : Path) where
   unfolding answer
   listed-told = told u s h (list? p)
 
-  pub step-told : (l : List (Name × Stat)) (r : Step) → Rest (trim u) p l r → StepIs u s p l r
-  step-told l (Entry k) x = record {
+  pub step-told : (l : List (Name × Stat)) (r : Option Spot) → Rest (trim u) p l r → StepIs u s p l r
+  step-told l (Some k) x = record {
     name = x.name;
     stat = x.stat;
     list = x.list;
     at = x.at;
     told = sym (told u s h (stat? (p ++ (x.name ∷ [])))) ∙ x.told;
   }
-  step-told l End x = x
+  step-told l None x = x
 
-  pub first_told : (r : Step) → Rest (trim u) p (listing_of (trim u) p) r → StepIs u s p (listed s p) r
+  pub first_told : (r : Option Spot) → Rest (trim u) p (listing_of (trim u) p) r → StepIs u s p (listed s p) r
   first_told r x = step-told (listed s p) r (subst (λ (l : List (Name × Stat)). Rest (trim u) p l r) listed-told x)
 
 -- what fits in the words of the state fits in those of the store

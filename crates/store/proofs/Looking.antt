@@ -16,8 +16,9 @@ use Rattle.model.proofs.Sound.Entries.{cut_some}
 use Rattle.layout.specs.Store.{Store, count, state}
 use Rattle.layout.proofs.Edited.Shapes.{lawful-shape}
 use Rattle.edit_room.specs.Extents.{trim}
-use Rattle.ask_find.specs.declared.Look.{Look}
-use Rattle.ask_find.specs.declared.Look.TheVariants.{Found, Missing}
+use Rattle.ask_find.specs.declared.Gap.{Gap}
+use Rattle.ask_find.specs.declared.Spot.{Spot}
+use Rattle.std.specs.Prelude.{Result, Ok, Err}
 use Rattle.ask_find.specs.Spots.{Hides, nothing, entry, Directory, Looks, Rooted}
 use Rattle.store.specs.Shows.{Shows, says, Asked, whole, without, LookIs, RootIs}
 use Rattle.store.proofs.Asked.{told}
@@ -84,23 +85,23 @@ module _ (u : Store) (s : State) (h : Shows u s) where
         targets = λ r z. sym (after q (target? r)) ∙ same_target (apply (take q) (world_of (state (trim u)))) (world_of (state (trim u))) r z ∙ told u s h (target? r);
       }
 
-  pub child-told : (i : ℕ) (w : World) (p : Path) (x : Name) (a : Look) → Asked u s i w → answer (kind? p) w ≡ some a_dir
+  pub child-told : (i : ℕ) (w : World) (p : Path) (x : Name) (a : Result Spot Gap) → Asked u s i w → answer (kind? p) w ≡ some a_dir
       → ((t : Entries) → Hides (trim u) i p t → Directory (trim u) p → Looks (trim u) i t p x a) → LookIs u s w i p x a
-  child-told i w p x (Found k) y e f =
+  child-told i w p x (Ok k) y e f =
       let t = asked i w p a_dir y e in
       let r = f t.tree t.hides t.stands in
       record { at = r.at; kind = t.kinds (p ++ (x ∷ [])) r.same; target = t.targets (p ++ (x ∷ [])) r.same }
-  child-told i w p x (Missing g) y e f =
+  child-told i w p x (Err g) y e f =
       let t = asked i w p a_dir y e in
       let r = f t.tree t.hides t.stands in
       (t.gone (p ++ (x ∷ [])) r.0, r.1)
 
-  pub root_told : (a : Look) → Rooted (trim u) a → RootIs u s a
-  root_told (Found k) f = (
+  pub root_told : (a : Result Spot Gap) → Rooted (trim u) a → RootIs u s a
+  root_told (Ok k) f = (
     (f (count u) (state (trim u)).tree (nothing (omega arith) refl)).at,
     λ i w n y e.
         let t = asked i w [] n y e in
         let r = f i t.tree t.hides in
         record { at = r.at; kind = t.kinds [] r.same; target = t.targets [] r.same },
   )
-  root_told (Missing g) f = (sym (told u s h (kind? [])) ∙ no_kind (world_of (state (trim u))) [] f.0, f.1)
+  root_told (Err g) f = (sym (told u s h (kind? [])) ∙ no_kind (world_of (state (trim u))) [] f.0, f.1)

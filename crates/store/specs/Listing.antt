@@ -1,6 +1,6 @@
 -- The listing of a directory in the model's words: entry by entry, how many they are, and their names.
 -- Assumes nothing.
-use Rattle.std.specs.Prelude.{List, [], ◌∷◌, ◌++◌, ◌≡◌, ◌≤◌, length}
+use Rattle.std.specs.Prelude.{Option, Some, None, List, [], ◌∷◌, ◌++◌, ◌≡◌, ◌≤◌, length}
 use Rattle.std.proofs.Math.Option.{some}
 use Rattle.text.specs.Utf8.{Bytes}
 use Rattle.path.specs.Path.{Name}
@@ -13,8 +13,6 @@ use Rattle.layout.specs.Store.{Store}
 use Rattle.layout.specs.Lent.{Lending}
 use Rattle.edit_room.specs.Extents.{trim}
 use Rattle.ask_find.specs.declared.Spot.{Spot}
-use Rattle.ask_list.specs.declared.Step.{Step}
-use Rattle.ask_list.specs.declared.Step.TheVariants.{Entry, End}
 use Rattle.ask_list.specs.Listed.{behind_in}
 use Rattle.store.specs.Shows.{Shows, Stands, Of, says}
 
@@ -37,16 +35,16 @@ pub record Begins (st : Store) (s : State) (p : Path) (l : List (Name × Stat)) 
   pub told : says (stat? (p ++ (name ∷ []))) s ≡ some stat
 
 -- the first of some entries of the directory p, or that there is none
-abbrev pub StepIs : Store → State → Path → List (Name × Stat) → Step → Type 0
-StepIs st s p l (Entry spot) = Begins st s p l spot
-StepIs st s p l End = l ≡ []
+abbrev pub StepIs : Store → State → Path → List (Name × Stat) → Option Spot → Type 0
+StepIs st s p l (Some spot) = Begins st s p l spot
+StepIs st s p l None = l ≡ []
 
 -- the first entry of the directory at the spot
-abbrev pub FirstIs : Lending → Spot → Step → Type 0
+abbrev pub FirstIs : Lending → Spot → Option Spot → Type 0
 FirstIs l spot r = Of l (λ st s. (p : Path) → Stands st spot p → StepIs st s p (listed s p) r)
 
 -- the entry behind the one at the spot, in the same directory
-abbrev pub NextIs : Lending → Spot → Step → Type 0
+abbrev pub NextIs : Lending → Spot → Option Spot → Type 0
 NextIs l spot r = Of l (λ st s. (p : Path) (x : Name) → Stands st spot (p ++ (x ∷ [])) → StepIs st s p (rest st p spot) r)
 
 -- ---- the names

@@ -1,7 +1,7 @@
 -- A store in a call's hands, the states that it shows, and what a question about it tells. Its slices are as long as the limits ask,
 -- with room for the words of all slots that they allow.
 -- Assumes nothing.
-use Rattle.std.specs.Prelude.{[], ◌∷◌, ◌++◌, ◌≡◌, ℕ, ◌≤◌, ◌<◌}
+use Rattle.std.specs.Prelude.{Result, Ok, Err, [], ◌∷◌, ◌++◌, ◌≡◌, ℕ, ◌≤◌, ◌<◌}
 use Rattle.std.specs.Prelude as std
 use Rattle.std.proofs.Math.Option.{none, some}
 use Rattle.model.specs.Tree.{Path}
@@ -15,8 +15,7 @@ use Rattle.layout.specs.Store.{Store, count, state}
 use Rattle.layout.specs.Lent.{Lending}
 use Rattle.edit_room.specs.Extents.{trim, Roomy}
 use Rattle.ask_find.specs.declared.Spot.{Spot}
-use Rattle.ask_find.specs.declared.Look.{Look}
-use Rattle.ask_find.specs.declared.Look.TheVariants.{Found, Missing}
+use Rattle.ask_find.specs.declared.Gap.{Gap}
 use Rattle.ask_find.specs.Paths.{path_at}
 use Rattle.ask_find.specs.Spots.{At, Vacant}
 use Rattle.ask_entry.specs.Reads.{PathIs}
@@ -79,16 +78,16 @@ pub record There (st : Store) (s : State) (w : World) (p : Path) (spot : Spot) :
   pub target : answer (target? p) w ≡ says (target? p) s
 
 -- the entry x of the directory p is there, or it is not in the world, and the gap is a place for it
-abbrev pub LookIs : Store → State → World → ℕ → Path → Name → Look → Type 0
-LookIs st s w h p x (Found spot) = There st s w (p ++ (x ∷ [])) spot
-LookIs st s w h p x (Missing gap) = (answer (kind? (p ++ (x ∷ []))) w ≡ none) × Vacant (trim st) h p x gap
+abbrev pub LookIs : Store → State → World → ℕ → Path → Name → Result Spot Gap → Type 0
+LookIs st s w h p x (Ok spot) = There st s w (p ++ (x ∷ [])) spot
+LookIs st s w h p x (Err gap) = (answer (kind? (p ++ (x ∷ []))) w ≡ none) × Vacant (trim st) h p x gap
 
 -- the entry x of the directory at the spot
-abbrev pub ChildIs : Lending → Spot → Name → ℕ → Look → Type 0
+abbrev pub ChildIs : Lending → Spot → Name → ℕ → Result Spot Gap → Type 0
 ChildIs l spot x h r =
     Of l (λ st s. (p : Path) (w : World) → Stands st spot p → Asked st s h w → answer (kind? p) w ≡ some a_dir → LookIs st s w h p x r)
 
 -- the root, which is there; or it is not, and no entry is
-abbrev pub RootIs : Store → State → Look → Type 0
-RootIs st s (Found spot) = Stands st spot [] × ((h : ℕ) (w : World) (k : Kind) → Asked st s h w → answer (kind? []) w ≡ some k → There st s w [] spot)
-RootIs st s (Missing gap) = (says (kind? []) s ≡ none) × (count st ≡ 0)
+abbrev pub RootIs : Store → State → Result Spot Gap → Type 0
+RootIs st s (Ok spot) = Stands st spot [] × ((h : ℕ) (w : World) (k : Kind) → Asked st s h w → answer (kind? []) w ≡ some k → There st s w [] spot)
+RootIs st s (Err gap) = (says (kind? []) s ≡ none) × (count st ≡ 0)

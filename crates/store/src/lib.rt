@@ -12,7 +12,7 @@ ghost use Rattle.ask_entry.specs.Reads.{stat_from, Contents, PathIs};
 ghost use Rattle.store.specs.Shows.{Of, OfEntry, Some, SomeEntry, says, NumberIs, HeldIs, KeptIs, ChildIs, RootIs};
 
 use ask_entry::Stat;
-use ask_find::{Look, Spot};
+use ask_find::{Gap, Spot};
 use layout::kind::Kind;
 use layout::{COUNT_AT, EXTENT_AT, MASK_AT};
 
@@ -28,7 +28,7 @@ pub(crate) fn in_use<'a>(words: &[u64], heads: &'a [u64]) -> &'a [u64]
 }
 
 // The root.
-pub fn root(words: &[u64]) -> Look
+pub fn root(words: &[u64]) -> Result<Spot, Gap>
     requires { Some (with_words words.now) }
     ensures { Of (still (with_words words.now)) (λ st s. RootIs st s result) }
 {
@@ -43,7 +43,7 @@ pub fn child(
     dir: Spot,
     name: &[u8],
     hidden: usize,
-) -> Look
+) -> Result<Spot, Gap>
     requires { SomeEntry (with_words words.now ∘ with_records records.now ∘ with_bytes bytes.now) dir }
     ensures { ChildIs (still (with_words words.now ∘ with_records records.now ∘ with_bytes bytes.now)) dir name.now hidden result }
 {

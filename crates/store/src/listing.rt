@@ -6,11 +6,10 @@ ghost use Rattle.store.specs.Shows.{OfEntry, SomeEntry};
 ghost use Rattle.store.specs.Listing.{listed, FirstIs, NextIs, names_of, SomeFitting, NamesPut};
 
 use ask_find::Spot;
-use ask_list::Step;
 use layout::COUNT_AT;
 
 // The first entry of the directory at the spot.
-pub fn first(words: &[u64], records: &[u64], spot: Spot) -> Step
+pub fn first(words: &[u64], records: &[u64], spot: Spot) -> Option<Spot>
     requires { SomeEntry (with_words words.now ∘ with_records records.now) spot }
     ensures { FirstIs (still (with_words words.now ∘ with_records records.now)) spot result }
 {
@@ -18,7 +17,7 @@ pub fn first(words: &[u64], records: &[u64], spot: Spot) -> Step
 }
 
 // The entry behind the one at the spot, in the same directory.
-pub fn next(words: &[u64], records: &[u64], spot: Spot) -> Step
+pub fn next(words: &[u64], records: &[u64], spot: Spot) -> Option<Spot>
     requires { SomeEntry (with_words words.now ∘ with_records records.now) spot }
     ensures { NextIs (still (with_words words.now ∘ with_records records.now)) spot result }
 {

@@ -2,13 +2,12 @@
 use mathlib.Core.Path.{◌≡◌, sym, ap, ◌∙◌}
 use Prim.Native.Nat.{ℕ, ◌+◌}
 use native.Mathlib.Omega.{arith}
+use Rattle.std.specs.Prelude.{Ok, Err}
 use lib.ListN.{take, drop, get_or}
 use Rattle.layout.specs.Fields.{depth_of}
 use Rattle.layout.specs.Rows.{name_total}
 use Rattle.layout.specs.Store.{Store, count, rows_of}
-use Rattle.ask_find.specs.Finds.{find_in}
-use Rattle.ask_find.specs.declared.Place.{Place}
-use Rattle.ask_find.specs.declared.Place.TheVariants.{Found, Missing}
+use Rattle.ask_find.specs.Finds.{Place, spot, find_in}
 use Rattle.ask_find.proofs.Children.{Ready, ready, asked_is, next_is, depth_is, child-found, child-hidden, child-missing}
 use Rattle.ask_find.proofs.child.Goals.{After-find_child, After-struct_known-1, Start}
 use Rattle.ask_find.proofs.child.Goals as goal
@@ -50,20 +49,20 @@ deep c st e f n =
     let s = c.args in
     depth_is s.records.now s.bytes.now s.count st e f n s.dir (c.depth_of-depth.result + 1) (ap (λ (d : ℕ). d + 1) c.depth_of-depth.ensures)
 
-pub returns-then-at-hidden : goal.returns-then-at-hidden
-returns-then-at-hidden c =
+pub returns-in-Ok-2 : goal.returns-in-Ok-2
+returns-in-Ok-2 c =
     λ st e f n l p t a d k.
     let s = c.args in
-    child-hidden st l s.dir p a s.hidden t d k s.name.now (s.dir.off + c.nlen_of.result) (offset (goal.at.returns-then-at-hidden c).After-find_child st e f n) c.in-Found.at c.in-Found.off (c.depth_of-depth.result + 1) c.if-at-hidden.true (told (goal.at.returns-then-at-hidden c).After-find_child (Found c.in-Found.at c.in-Found.off) c.in-Found.is st e f n) (deep (goal.at.returns-then-at-hidden c).After-find_child st e f n)
+    rw c.gap.ensures (child-hidden st l s.dir p a s.hidden t d k s.name.now (s.dir.off + c.nlen_of.result) (offset (goal.at.returns-in-Ok-2 c).After-find_child st e f n) c.in-Ok.spot.at c.in-Ok.spot.off (c.depth_of-depth.result + 1) c.if-spot-hidden.false (told (goal.at.returns-in-Ok-2 c).After-find_child (Ok (spot c.in-Ok.spot.at c.in-Ok.spot.off)) c.in-Ok.is st e f n) (deep (goal.at.returns-in-Ok-2 c).After-find_child st e f n))
 
-pub returns-else-at-hidden : goal.returns-else-at-hidden
-returns-else-at-hidden c =
+pub returns-in-Ok : goal.returns-in-Ok
+returns-in-Ok c =
     λ st e f n l p t a d k.
     let s = c.args in
-    child-found st l s.dir p a s.hidden t d k s.name.now (s.dir.off + c.nlen_of.result) (offset (goal.at.returns-else-at-hidden c).After-find_child st e f n) c.in-Found.at c.in-Found.off c.if-at-hidden.false (told (goal.at.returns-else-at-hidden c).After-find_child (Found c.in-Found.at c.in-Found.off) c.in-Found.is st e f n)
+    child-found st l s.dir p a s.hidden t d k s.name.now (s.dir.off + c.nlen_of.result) (offset (goal.at.returns-in-Ok c).After-find_child st e f n) c.in-Ok.spot.at c.in-Ok.spot.off c.if-spot-hidden.true (told (goal.at.returns-in-Ok c).After-find_child (Ok (spot c.in-Ok.spot.at c.in-Ok.spot.off)) c.in-Ok.is st e f n)
 
-pub returns-in-Missing : goal.returns-in-Missing
-returns-in-Missing c =
+pub returns-in-Err : goal.returns-in-Err
+returns-in-Err c =
     λ st e f n l p t a d k.
     let s = c.args in
-    child-missing st l s.dir p a s.hidden t d k s.name.now (s.dir.off + c.nlen_of.result) (offset (goal.at.returns-in-Missing c).After-find_child st e f n) c.in-Missing.at c.in-Missing.off (c.depth_of-depth.result + 1) (told (goal.at.returns-in-Missing c).After-find_child (Missing c.in-Missing.at c.in-Missing.off) c.in-Missing.is st e f n) (deep (goal.at.returns-in-Missing c).After-find_child st e f n)
+    rw c.gap-in-Err.ensures (child-missing st l s.dir p a s.hidden t d k s.name.now (s.dir.off + c.nlen_of.result) (offset (goal.at.returns-in-Err c).After-find_child st e f n) c.in-Err.spot.at c.in-Err.spot.off (c.depth_of-depth.result + 1) (told (goal.at.returns-in-Err c).After-find_child (Err (spot c.in-Err.spot.at c.in-Err.spot.off)) c.in-Err.is st e f n) (deep (goal.at.returns-in-Err c).After-find_child st e f n))

@@ -51,17 +51,17 @@ loop-j-preserved-then-t-d-ne1 c =
 pub slice_bounds-compare-end : goal.slice_bounds-compare-end
 slice_bounds-compare-end c = omega (arith, room (goal.at.slice_bounds-compare-end c).After-nlen_of)
 
-pub returns-in-Same : goal.returns-in-Same
-returns-in-Same c =
+pub returns-in-Equal : goal.returns-in-Equal
+returns-in-Equal c =
     let a = c.args in
     let l = c.loop-j in
-    sym (l.invariant.2 ∙ scan_same a.records.now a.bytes.now a.count a.d a.name.now l.j l.o c.requires.0 c.loop-j-test.true (omega arith) (met (goal.at.returns-in-Same c).After-compare ∙ c.in-Same.is))
+    sym (l.invariant.2 ∙ scan_same a.records.now a.bytes.now a.count a.d a.name.now l.j l.o c.requires.0 c.loop-j-test.true (omega arith) (met (goal.at.returns-in-Equal c).After-compare ∙ c.in-Equal.is))
 
-pub returns-in-More : goal.returns-in-More
-returns-in-More c =
+pub returns-in-Greater : goal.returns-in-Greater
+returns-in-Greater c =
     let a = c.args in
     let l = c.loop-j in
-    sym (l.invariant.2 ∙ scan_more a.records.now a.bytes.now a.count a.d a.name.now l.j l.o c.requires.0 c.loop-j-test.true (omega arith) (met (goal.at.returns-in-More c).After-compare ∙ c.in-More.is))
+    sym (l.invariant.2 ∙ scan_more a.records.now a.bytes.now a.count a.d a.name.now l.j l.o c.requires.0 c.loop-j-test.true (omega arith) (met (goal.at.returns-in-Greater c).After-compare ∙ c.in-Greater.is))
 
 pub loop-j-preserved : goal.loop-j-preserved
 loop-j-preserved c =
