@@ -3,12 +3,14 @@
 ghost use Rattle.std.specs.Prelude.{◌≡◌, ◌++◌, ◌≤◌, length, drop, replicate};
 ghost use Rattle.layout.specs.Numbers.{word_count};
 ghost use Rattle.layout.specs.Lent.{lends};
+ghost use Rattle.refusal.specs.Numbers.{answered};
 ghost use Rattle.setup.specs.SetUp.{entries_fit, bytes_fit, fresh_words, IsSetUp};
 
 use layout::{
     FILE_NUMBERS, LEAST_BYTES, MASK_AT, MOST_AT, MOST_BYTES, MOST_ENTRIES, PATHS_BYTES, ROOM_AT,
     WORD_COUNT,
 };
+use refusal::Refusal;
 
 // Zeros in front of all else.
 fn zero_words(s: &mut [u64], n: usize)
@@ -79,7 +81,8 @@ fn bytes_fit(bytes: usize, limit: u64) -> bool
     limit as usize <= bytes
 }
 
-// 0, or refusal 15 or 16. Only the state's words are written: a fresh store has no slot.
+// Refusal 15 or 16, or a fresh store. Only the state's words are written: a fresh store has no slot.
+// kept: the slices are lent one by one, since the words are written and the others only measured.
 pub fn set_up(
     words: &mut [u64],
     records: &[u64],
@@ -89,9 +92,9 @@ pub fn set_up(
     bytes: &[u8],
     limit: u64,
     room: u64,
-) -> u32
+) -> Result<(), Refusal>
     ensures { IsSetUp limit room (lends words.old records.now heads.now times.now paths.now bytes.now)
-        (lends words.new records.now heads.now times.now paths.now bytes.now) result }
+        (lends words.new records.now heads.now times.now paths.now bytes.now) (answered result) }
 {
     if !entries_fit(
         words.len(),
@@ -101,11 +104,11 @@ pub fn set_up(
         paths.len(),
         limit,
     ) {
-        return 15;
+        return Err(Refusal::NoEntries);
     }
     if !bytes_fit(bytes.len(), room) {
-        return 16;
+        return Err(Refusal::NoBytes);
     }
     fresh_words(words, limit, room);
-    0
+    Ok(())
 }
