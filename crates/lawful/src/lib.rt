@@ -1,12 +1,13 @@
 #![tactic(auto)]
 // The exact test of refusal 1: whether lent slices are a store.
-ghost use Rattle.std.specs.Prelude.{◌≤◌, length};
+ghost use Rattle.std.specs.Prelude.{ℕ, ◌^◌, ◌<◌, ◌≤◌, length, get_or};
 ghost use Rattle.layout.specs.Numbers.{extent_at, most_entries, most_bytes, most_slots, paths_bytes};
 ghost use Rattle.layout.specs.Lawful.{Keeps, Passes};
-ghost use Rattle.layout.specs.Lent.{lends};
+ghost use Rattle.layout.specs.Lent.{lends, lent_by};
 ghost use Rattle.lawful_limits.specs.Settles.{Settles};
 ghost use Rattle.lawful.specs.Parts.{Parts};
 
+use layout::slices::Slices;
 use layout::{COUNT_AT, EXTENT_AT, PATHS_BYTES, ROOM_AT, WORD_COUNT};
 
 pub mod cells;
@@ -69,17 +70,25 @@ fn rules_ok(
     )
 }
 
+// What words and bytes hold, whatever they hold: it is known of the slices themselves, and not of those in a struct.
+fn unsigned_known(words: &[u64], heads: &[u64], bytes: &[u8])
+    ensures words { (i : ℕ) → get_or words.now i 0 < 2 ^ 64 }
+    ensures heads { (i : ℕ) → get_or heads.now i 0 < 2 ^ 64 }
+    ensures bytes { (i : ℕ) → get_or bytes.now i 0 < 256 }
+{}
+
 // Whether the slices are a store. The times are gone through for their sizes alone, which costs nothing.
-pub fn store_ok(
-    words: &[u64],
-    records: &[u64],
-    heads: &[u64],
-    times: &[i64],
-    paths: &[u8],
-    bytes: &[u8],
-) -> bool
-    ensures { Settles result (Passes (lends words.now records.now heads.now times.now paths.now bytes.now)) }
+pub fn store_ok(lent: Slices) -> bool
+    ensures { Settles result (Passes (lent_by lent.entry)) }
 {
-    sizes::known(times);
-    rules_ok(words, records, heads, times, paths, bytes)
+    sizes::known(lent.times);
+    unsigned_known(lent.words, lent.heads, lent.bytes);
+    rules_ok(
+        lent.words,
+        lent.records,
+        lent.heads,
+        lent.times,
+        lent.paths,
+        lent.bytes,
+    )
 }

@@ -1,10 +1,10 @@
 -- `store_ok` meets its contract: the rules are tested, and what slices hold is known where they are read.
 -- Assumes nothing.
 use mathlib.Core.Bool.{Bool, true, false}
-use native.Mathlib.Omega.{arith}
 use Rattle.layout.proofs.Sizes.{sized-cut}
 use Rattle.layout.specs.Lawful.{Sized, Keeps, Passes}
-use Rattle.layout.specs.Store.{Store, lent, core}
+use Rattle.layout.specs.Lent.{lent_by}
+use Rattle.layout.specs.Store.{Store, core}
 use Rattle.lawful_limits.specs.Settles.{Settles}
 use Rattle.lawful.proofs.store_ok.Goals as goal
 
@@ -14,10 +14,5 @@ with-sizes st false z k = λ p. k (p.0, p.1)
 
 pub returns : goal.returns
 returns c =
-    let b = c in
-    let a = b.args in
-    let st = lent a.words.now a.records.now a.heads.now a.times.now a.paths.now a.bytes.now in
-    with-sizes st c.rules_ok.result
-    (sized-cut st (λ i. omega (arith, b.type_inv.words i)) (λ i. omega (arith, b.type_inv.heads i))
-    c.known.ensures (λ i. omega (arith, b.type_inv.bytes i)))
-    c.rules_ok.ensures
+    let k = c.unsigned_known.ensures in
+    with-sizes (lent_by c.args.lent) c.rules_ok.result (sized-cut (lent_by c.args.lent) k.words k.heads c.known.ensures k.bytes) c.rules_ok.ensures
