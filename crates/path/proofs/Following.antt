@@ -16,8 +16,9 @@ use Rattle.text.specs.Utf8.{Bytes}
 use Rattle.path.specs.Path.{Name, cut, pieces, body}
 use Rattle.path.specs.Backward.{Sifted, kind_of, mk, sift_one, sift, sifted, front, part}
 use Rattle.path.specs.Answer.{AllNames, Clean, EndIs, PieceIs, PlainIs}
-use Rattle.path.specs.declared.answer.Plain.{Plain}
-use Rattle.path.specs.declared.answer.Plain.TheVariants.{From}
+use Rattle.path.specs.declared.pieces.Piece.{Piece}
+use Rattle.path.specs.declared.pieces.Piece.TheVariants as kind
+use Rattle.std.specs.Prelude.{Option, Some}
 use Rattle.path.proofs.Cutting.{first, front-part, part-empty, part-cons, part_length, piece_is}
 use Rattle.path.proofs.Dots.{kind_none, kind_other}
 use Rattle.path.proofs.Dropping.{body-pieces}
@@ -55,7 +56,7 @@ unfolding sift
 named-kept strike [] h = refl
 named-kept strike (n ∷ ns) h =
     ap (λ (z : Sifted). sift_one (kind_of strike n) n z) (named-kept strike ns h.1)
-    ∙ ap (λ (k : ℕ). sift_one k n (mk 0 ns)) (kind_other strike n h.0.some h.0.begins)
+    ∙ ap (λ (k : Piece). sift_one k n (mk 0 ns)) (kind_other strike n h.0.some h.0.begins)
 
 pub all-names : (s : Bytes) → Follows 47 s → AllNames s
 unfolding Tail
@@ -107,7 +108,7 @@ module _ (s : Bytes) (e : ℕ) (fits : e ≤ length s) (last : get_or s (e - 1) 
 -- ---- what stands beside the names
 
 one_gone : (strike : Bool) (z : Sifted) → sift_one (kind_of strike []) [] z ≡ z
-one_gone strike z = ap (λ (k : ℕ). sift_one k [] z) (kind_none strike [] refl)
+one_gone strike z = ap (λ (k : Piece). sift_one k [] z) (kind_none strike [] refl)
 
 -- no text keeps nothing
 pub sifted-empty : (strike : Bool) (k : ℕ) (s : Bytes) → length s ≡ 0 → sifted strike k s ≡ mk k []
@@ -127,7 +128,7 @@ end-slash s l q =
       omega arith,
       λ strike.
           let piece : PieceIs s (length s) (length s + 1 - 1) = rw n (piece_is s (length s) (length s) (le_refl (length s)) (le_refl (length s)) (rw part-empty tt) (λ _. q)) in
-          let k : kind_of strike (part (length s) (length s + 1 - 1) s) ≡ 0 = rw (n, part-empty (length s) s) (kind_none strike [] refl) in
+          let k : kind_of strike (part (length s) (length s + 1 - 1) s) ≡ kind.Vanishes = rw (n, part-empty (length s) s) (kind_none strike [] refl) in
           rw p (read-gone strike s 0 (length s + 1) 0 (length s) [] (read_none strike s 0) 0 (back-gone strike s (length s + 1) (length s) (omega arith) piece 0 k)).same,
     )
 
@@ -138,28 +139,28 @@ module _ (s : Bytes) (e : ℕ) (end : EndIs s e) (strike : Bool) where
       end.1 strike ∙ ap (λ (x : List Name). sift strike x (mk 0 [])) (rw add-one (front-part s a e (omega arith) end.0 f))
       ∙ sift-append strike (front a s) (pieces (part a e s)) (mk 0 []) ∙ ap (λ (z : Sifted). sift strike (front a s) z) (h strike)
 
-  pub plain-relative : 0 < e → AllNames (part 0 e s) → PlainIs (From 0 e) strike 0 s
+  pub plain-relative : 0 < e → AllNames (part 0 e s) → PlainIs (Some (0, e)) strike 0 s
   unfolding front sift
   plain-relative l h = (zero-le, end.0, between 0 l (λ q. absurd (omega arith)) h)
 
-  pub plain-absolute : 1 < e → get_or s 0 0 ≡ 47 → AllNames (part 1 e s) → PlainIs (From 1 e) strike 0 s
+  pub plain-absolute : 1 < e → get_or s 0 0 ≡ 47 → AllNames (part 1 e s) → PlainIs (Some (1, e)) strike 0 s
   unfolding front sift pieces
   plain-absolute l q h = (omega arith, end.0, between 1 l (λ _. q) h ∙ one_gone strike (mk 0 (pieces (part 1 e s))))
 
 -- ---- what is kept of a plain text
 
-module _ (s : Bytes) (a e : ℕ) (strike : Bool) (k : ℕ) (w : PlainIs (From a e) strike k s) where
+module _ (s : Bytes) (a e : ℕ) (strike : Bool) (k : ℕ) (w : PlainIs (Some (a, e)) strike k s) where
   pub plain_body : body (sifted strike k s).kept ≡ 47 ∷ part a e s
   plain_body = ap (λ (z : Sifted). body z.kept) w.2 ∙ body-pieces (part a e s)
 
   pub plain-length : e - a + 1 ≡ length (body (sifted strike k s).kept)
   plain-length = rw plain_body (omega (arith, part_length a e s w.1, w.0))
 
-pub plain-told : {r x : Plain} (strike : Bool) (k : ℕ) (s : Bytes) → r ≡ x → PlainIs r strike k s → PlainIs x strike k s
-plain-told strike k s e w = subst (λ (y : Plain). PlainIs y strike k s) e w
+pub plain-told : {r x : Option (ℕ × ℕ)} (strike : Bool) (k : ℕ) (s : Bytes) → r ≡ x → PlainIs r strike k s → PlainIs x strike k s
+plain-told strike k s e w = subst (λ (y : Option (ℕ × ℕ)). PlainIs y strike k s) e w
 
 -- nothing behind the text drops a name
-pub plain-behind : (r : Plain) (strike : Bool) (k : ℕ) (s : Bytes) → k ≡ 0 → PlainIs r strike 0 s → PlainIs r strike k s
+pub plain-behind : (r : Option (ℕ × ℕ)) (strike : Bool) (k : ℕ) (s : Bytes) → k ≡ 0 → PlainIs r strike 0 s → PlainIs r strike k s
 plain-behind r strike k s e w = subst (λ (j : ℕ). PlainIs r strike j s) (sym e) w
 
 -- the text behind its slash, stored where it ends

@@ -13,20 +13,19 @@ use Rattle.blocks.specs.Moved.{moved}
 use Rattle.blocks.proofs.Laws.{moved-split}
 use Rattle.path.specs.Path.{Name, names, norm, normal, from, is_absolute, absolute, body}
 use Rattle.path.specs.Backward.{sifted, drop_n, Sifted, part}
-use Rattle.path.specs.Answer.{formed, written, Forms}
-use Rattle.path.specs.declared.answer.Formed.{Formed}
-use Rattle.path.specs.declared.answer.Formed.TheVariants.{Text, TooLong}
+use Rattle.path.specs.Answer.{Formed, formed, written, Forms}
+use Rattle.std.specs.Prelude.{Ok, Err}
 use Rattle.path.proofs.Dropping.{drop_n-nil}
 use Rattle.path.proofs.Reading.{norm-sifted, raw-sifted, body-append}
 
 -- ---- the two answers
 
 module _ (t before : Bytes) where
-  pub forms-long : 1024 < length t → Forms t before before TooLong
+  pub forms-long : 1024 < length t → Forms t before before (Err (record {}))
   unfolding formed written
   forms-long h = record { answer = rw (lt-leb (length t) 1024 h); buffer = rw (lt-leb (length t) 1024 h) }
 
-  pub forms-text : (after : Bytes) (n : ℕ) → length t ≤ 1024 → n ≡ length t → after ≡ t ++ drop (length t) before → Forms t before after (Text n)
+  pub forms-text : (after : Bytes) (n : ℕ) → length t ≤ 1024 → n ≡ length t → after ≡ t ++ drop (length t) before → Forms t before after (Ok n)
   unfolding formed written
   forms-text after n h e w = record { answer = rw (le-leb (length t) 1024 h, e); buffer = rw (le-leb (length t) 1024 h) w }
 
@@ -60,7 +59,7 @@ stored t out after end e w =
     let z : end - length t ≡ 0 = omega arith in
     w ∙ rw (z, e)
 
-pub both_long : (a b out : Bytes) (first : ℕ) → first ≡ length a → 1024 < first + length b → Forms (a ++ b) out out TooLong
+pub both_long : (a b out : Bytes) (first : ℕ) → first ≡ length a → 1024 < first + length b → Forms (a ++ b) out out (Err (record {}))
 both_long a b out first e h = forms-long (a ++ b) out (omega (arith, length-append a b))
 
 module _ (a b out mid after : Bytes) (first last : ℕ) (ea : first ≡ length a) (eb : last ≡ length b) (fits : first + last ≤ length out)
@@ -78,7 +77,7 @@ module _ (a b out mid after : Bytes) (first last : ℕ) (ea : first ≡ length a
       ∙ ap (λ (x : Bytes). a ++ x) (ap (λ (x : Bytes). drop first x) m ∙ drop_at (take first out) (b ++ drop (first + last) out) first l)
       ∙ sym (append_assoc a b (drop (first + last) out)) ∙ ap (λ (k : ℕ). (a ++ b) ++ drop k out) n
 
-  pub forms_both : first + last ≤ 1024 → Forms (a ++ b) out after (Text (first + last))
+  pub forms_both : first + last ≤ 1024 → Forms (a ++ b) out after (Ok (first + last))
   forms_both h =
       let n : first + last ≡ length (a ++ b) = omega (arith, length-append a b) in
       forms-text (a ++ b) out after (first + last) (omega arith) n both_stored
@@ -100,7 +99,7 @@ from_dir dir path h = ap (λ (t : Bool). norm (cond t [] dir) (names path)) (sym
 pub raw-kept : (path : Bytes) → body (names path) ≡ body (sifted false 0 path).kept
 raw-kept path = sym (ap (λ (z : Sifted). body z.kept) (raw-sifted path))
 
-pub forms_one : (t out after : Bytes) (n : ℕ) → n ≡ length t → n ≤ 1024 → after ≡ take (n - length t) out ++ (t ++ drop n out) → Forms t out after (Text n)
+pub forms_one : (t out after : Bytes) (n : ℕ) → n ≡ length t → n ≤ 1024 → after ≡ take (n - length t) out ++ (t ++ drop n out) → Forms t out after (Ok n)
 forms_one t out after n e h w = forms-text t out after n (omega arith) e (stored t out after n e w)
 
 -- ---- a link's target in place of the link
@@ -130,7 +129,7 @@ module _ (out target : Bytes) (dir : List Name) (first kept skip rest len : ℕ)
   target-length : length (body (absolute dir target)) ≡ first + kept
   target-length = omega (arith, simp length-append at (ap length parts), length-take-le first out room)
 
-  pub follow-long : 1024 < first + kept + length (part rest len out) → Forms (body (absolute dir target) ++ part rest len out) out out TooLong
+  pub follow-long : 1024 < first + kept + length (part rest len out) → Forms (body (absolute dir target) ++ part rest len out) out out (Err (record {}))
   follow-long h = forms-long (body (absolute dir target) ++ part rest len out) out
       (omega (arith, target-length, length-append (body (absolute dir target)) (part rest len out)))
 
@@ -138,7 +137,7 @@ module _ (out target : Bytes) (dir : List Name) (first kept skip rest len : ℕ)
       (move : mid ≡ moved out rest (first + kept) count) (fits : first + kept ≤ length out)
       (put : after ≡ take (first + kept - length (body (sifted true 0 target).kept)) mid
       ++ (body (sifted true 0 target).kept ++ drop (first + kept) mid)) where
-    pub follow-forms : first + kept + count ≤ 1024 → Forms (body (absolute dir target) ++ part rest len out) out after (Text (first + kept + count))
+    pub follow-forms : first + kept + count ≤ 1024 → Forms (body (absolute dir target) ++ part rest len out) out after (Ok (first + kept + count))
     follow-forms h =
         let at : ℕ = first + kept in
         let k : Bytes = body (sifted true 0 target).kept in

@@ -9,19 +9,18 @@ use Rattle.text.specs.Utf8.{Bytes}
 use Rattle.path.specs.Path.{Name, names, norm, normal, is_absolute, from, absolute, last_name}
 use Rattle.path.specs.Backward.{Sifted, sifted, mk, part, drop_n}
 use Rattle.path.specs.Answer.{LastIs, PlaceIs}
-use Rattle.path.specs.declared.answer.Last.{Last}
-use Rattle.path.specs.declared.answer.Last.TheVariants.{At, Left}
 use Rattle.path.specs.declared.answer.Place.{Place}
-use Rattle.path.specs.declared.answer.Place.TheVariants.{InPath, InCwd, Nowhere}
+use Rattle.path.specs.declared.answer.Place.TheVariants.{InPath, InCwd}
+use Rattle.std.specs.Prelude.{Option, Some, None, Result, Ok, Err}
 use Rattle.path.proofs.Dropping.{drop_n-nil}
 use Rattle.path.proofs.Reading.{norm-sifted}
 
 -- what a known answer says
-pub told : {r x : Last} (s : Bytes) (k : ℕ) → r ≡ x → LastIs r s k → LastIs x s k
-told s k e w = subst (λ (y : Last). LastIs y s k) e w
+pub told : {r x : Result (ℕ × ℕ) ℕ} (s : Bytes) (k : ℕ) → r ≡ x → LastIs r s k → LastIs x s k
+told s k e w = subst (λ (y : Result (ℕ × ℕ) ℕ). LastIs y s k) e w
 
-pub place-told : {r x : Place} (path cwd : Bytes) → r ≡ x → PlaceIs r path cwd → PlaceIs x path cwd
-place-told path cwd e w = subst (λ (y : Place). PlaceIs y path cwd) e w
+pub place-told : {r x : Option Place} (path cwd : Bytes) → r ≡ x → PlaceIs r path cwd → PlaceIs x path cwd
+place-told path cwd e w = subst (λ (y : Option Place). PlaceIs y path cwd) e w
 
 last_snoc : (l : List Name) (n : Name) → last_name (l ++ (n ∷ [])) ≡ n
 unfolding last_name
@@ -43,16 +42,16 @@ norm_left k j base s e =
     norm-sifted k base s ∙ ap (λ (z : Sifted). drop_n z.skip base ++ z.kept) e ∙ append-nil (drop_n j base)
 
 module _ (path cwd : Bytes) where
-  pub in_path : (a e : ℕ) → LastIs (At a e) path 0 → PlaceIs (InPath a e) path cwd
+  pub in_path : (a e : ℕ) → LastIs (Ok (a, e)) path 0 → PlaceIs (Some (InPath a e)) path cwd
   unfolding absolute drop_n
   in_path a e w = (w.0, w.1, norm_last 0 (from (normal cwd) path) path (part a e path) (w.2, w.3))
 
-  module _ (j : ℕ) (w : LastIs (Left j) path 0) where
+  module _ (j : ℕ) (w : LastIs (Err j) path 0) where
     left : absolute (normal cwd) path ≡ drop_n j (from (normal cwd) path)
     unfolding absolute drop_n
     left = norm_left 0 j (from (normal cwd) path) path w.0
 
-    pub at-root : is_absolute path ≡ true → PlaceIs Nowhere path cwd
+    pub at-root : is_absolute path ≡ true → PlaceIs None path cwd
     unfolding from
     at-root h = left ∙ ap (λ (t : Bool). drop_n j (cond t [] (normal cwd))) h ∙ drop_n-nil j
 
@@ -60,15 +59,15 @@ module _ (path cwd : Bytes) where
     unfolding from
     relative h = left ∙ ap (λ (t : Bool). drop_n j (cond t [] (normal cwd))) h
 
-    pub in-cwd : is_absolute path ≡ false → (a e : ℕ) → LastIs (At a e) cwd j → PlaceIs (InCwd a e) path cwd
+    pub in-cwd : is_absolute path ≡ false → (a e : ℕ) → LastIs (Ok (a, e)) cwd j → PlaceIs (Some (InCwd a e)) path cwd
     unfolding normal
     in-cwd h a e v = (v.0, v.1, ap last_name (relative h) ∙ norm_last j [] cwd (part a e cwd) (v.2, v.3))
 
-    pub nowhere : is_absolute path ≡ false → (i : ℕ) → LastIs (Left i) cwd j → PlaceIs Nowhere path cwd
+    pub nowhere : is_absolute path ≡ false → (i : ℕ) → LastIs (Err i) cwd j → PlaceIs None path cwd
     unfolding normal
     nowhere h i v = relative h ∙ norm_left j i [] cwd v.0 ∙ drop_n-nil i
 
 -- the root has no last name
-pub place_none : (path cwd : Bytes) → PlaceIs Nowhere path cwd → [] ≡ last_name (absolute (normal cwd) path)
+pub place_none : (path cwd : Bytes) → PlaceIs None path cwd → [] ≡ last_name (absolute (normal cwd) path)
 unfolding last_name
 place_none path cwd w = sym (ap last_name w)

@@ -16,6 +16,8 @@ use Rattle.path.specs.Backward.{kind_by, kind_of, Sifted, mk, keep_one, sift_one
 use Rattle.path.specs.Answer.{PieceIs, BackIs}
 use Rattle.path.specs.declared.answer.Back.{Back}
 use Rattle.path.specs.declared.answer.Back.TheVariants.{Gone, Keeps}
+use Rattle.path.specs.declared.pieces.Piece.{Piece}
+use Rattle.path.specs.declared.pieces.Piece.TheVariants as kind
 
 -- ---- sift
 
@@ -26,33 +28,33 @@ sift-append strike (n ∷ x) y z = ap (λ (r : Sifted). sift_one (kind_of strike
 
 -- the last piece is read first
 module _ (strike : Bool) (s : Bytes) (rest a : ℕ) (pos : 0 < rest) (piece : PieceIs s a (rest - 1)) where
-  sift_last : (z : Sifted) (k : ℕ) → kind_of strike (part a (rest - 1) s) ≡ k
+  sift_last : (z : Sifted) (k : Piece) → kind_of strike (part a (rest - 1) s) ≡ k
       → sift strike (front rest s) z ≡ sift strike (front a s) (sift_one k (part a (rest - 1) s) z)
   unfolding sift
   sift_last z k q =
       let p : rest ≡ rest - 1 + 1 = omega arith in
       ap (λ (x : ℕ). sift strike (front x s) z) p ∙ ap (λ (x : List Name). sift strike x z) piece.last
       ∙ sift-append strike (front a s) (part a (rest - 1) s ∷ []) z
-      ∙ ap (λ (x : ℕ). sift strike (front a s) (sift_one x (part a (rest - 1) s) z)) q
+      ∙ ap (λ (x : Piece). sift strike (front a s) (sift_one x (part a (rest - 1) s) z)) q
 
-  pub back-gone : (skip : ℕ) → kind_of strike (part a (rest - 1) s) ≡ 0 → BackIs strike s rest skip (Gone a skip)
-  back-gone skip q = (omega (arith, piece.fits), omega arith, λ ns. sift_last (mk skip ns) 0 q)
+  pub back-gone : (skip : ℕ) → kind_of strike (part a (rest - 1) s) ≡ kind.Vanishes → BackIs strike s rest skip (Gone a skip)
+  back-gone skip q = (omega (arith, piece.fits), omega arith, λ ns. sift_last (mk skip ns) kind.Vanishes q)
 
-  pub back_up : (skip : ℕ) → kind_of strike (part a (rest - 1) s) ≡ 1 → BackIs strike s rest skip (Gone a (skip + 1))
-  back_up skip q = (omega (arith, piece.fits), omega arith, λ ns. rw add-one (sift_last (mk skip ns) 1 q))
+  pub back_up : (skip : ℕ) → kind_of strike (part a (rest - 1) s) ≡ kind.Drops → BackIs strike s rest skip (Gone a (skip + 1))
+  back_up skip q = (omega (arith, piece.fits), omega arith, λ ns. rw add-one (sift_last (mk skip ns) kind.Drops q))
 
-  pub back-dropped : (skip : ℕ) → kind_of strike (part a (rest - 1) s) ≡ 2 → 0 < skip → BackIs strike s rest skip (Gone a (skip - 1))
+  pub back-dropped : (skip : ℕ) → kind_of strike (part a (rest - 1) s) ≡ kind.Name → 0 < skip → BackIs strike s rest skip (Gone a (skip - 1))
   back-dropped skip q h =
       let p : skip ≡ suc (skip - 1) = omega arith in (
         omega (arith, piece.fits),
         omega arith,
-        λ ns. sift_last (mk skip ns) 2 q ∙ ap (λ (x : ℕ). sift strike (front a s) (keep_one x (part a (rest - 1) s) ns)) p,
+        λ ns. sift_last (mk skip ns) kind.Name q ∙ ap (λ (x : ℕ). sift strike (front a s) (keep_one x (part a (rest - 1) s) ns)) p,
       )
 
-  pub back-kept : (skip : ℕ) → kind_of strike (part a (rest - 1) s) ≡ 2 → skip ≡ 0 → BackIs strike s rest skip (Keeps a)
+  pub back-kept : (skip : ℕ) → kind_of strike (part a (rest - 1) s) ≡ kind.Name → skip ≡ 0 → BackIs strike s rest skip (Keeps a)
   back-kept skip q h = (
     omega (arith, piece.fits),
-    λ ns. sift_last (mk skip ns) 2 q ∙ ap (λ (x : ℕ). sift strike (front a s) (keep_one x (part a (rest - 1) s) ns)) h
+    λ ns. sift_last (mk skip ns) kind.Name q ∙ ap (λ (x : ℕ). sift strike (front a s) (keep_one x (part a (rest - 1) s) ns)) h
         ∙ ap (λ (x : ℕ). sift strike (front a s) (mk x (part a (rest - 1) s ∷ ns))) (sym h),
     h,
     piece,
@@ -155,10 +157,10 @@ keep-grows : (k : ℕ) (n : Name) (ns : List Name) → length (body ns) ≤ leng
 keep-grows zero n ns = omega (arith, body-cons-length n ns)
 keep-grows (suc k) n ns = le_refl _
 
-one_grows : (k : ℕ) (n : Name) (z : Sifted) → length (body z.kept) ≤ length (body (sift_one k n z).kept)
-one_grows zero n z = le_refl _
-one_grows (suc zero) n z = le_refl _
-one_grows (suc (suc k)) n z = keep-grows z.skip n z.kept
+one_grows : (k : Piece) (n : Name) (z : Sifted) → length (body z.kept) ≤ length (body (sift_one k n z).kept)
+one_grows kind.Vanishes n z = le_refl _
+one_grows kind.Drops n z = le_refl _
+one_grows kind.Name n z = keep-grows z.skip n z.kept
 
 sift-grows : (strike : Bool) (ps : List Name) (z : Sifted) → length (body z.kept) ≤ length (body (sift strike ps z).kept)
 unfolding sift
@@ -172,11 +174,11 @@ read_fits strike s k rest skip kept r = rw r.same (sift-grows strike (front rest
 
 -- ---- the last name
 
-one_passive : (k : ℕ) (n : Name) (z : Sifted) (ns : List Name)
+one_passive : (k : Piece) (n : Name) (z : Sifted) (ns : List Name)
     → sift_one k n (mk z.skip (z.kept ++ ns)) ≡ mk (sift_one k n z).skip ((sift_one k n z).kept ++ ns)
-one_passive zero n z ns = refl
-one_passive (suc zero) n z ns = refl
-one_passive (suc (suc k)) n z ns = go z.skip
+one_passive kind.Vanishes n z ns = refl
+one_passive kind.Drops n z ns = refl
+one_passive kind.Name n z ns = go z.skip
   where
     go : (j : ℕ) → keep_one j n (z.kept ++ ns) ≡ mk (keep_one j n z.kept).skip ((keep_one j n z.kept).kept ++ ns)
     go zero = refl

@@ -6,10 +6,10 @@ use mathlib.Core.Path.{◌≡◌, refl, sym, ap, ◌∙◌}
 use Prim.Native.Nat.{ℕ, suc, ◌+◌, ◌-◌, ◌≤◌, ◌<◌}
 use native.Mathlib.Nat.{le_refl}
 use native.Mathlib.Omega.{arith}
-use lib.Dec.{eqb, leb}
+use lib.Dec.{leb}
 use lib.ListN.{length, get_or, length-append}
 use lib.Seq.{take-length}
-use borrow.Author.Tests.{le-leb, lt-leb}
+use borrow.Author.Tests.{eq-eqb, ne_eqb, le-leb, lt-leb}
 use Rattle.text.specs.Utf8.{Bytes}
 use Rattle.path.specs.Path.{Name, pieces, is_absolute, body, all_short, lengths_ok}
 use Rattle.path.specs.Backward.{part}
@@ -24,10 +24,15 @@ unfolding is_absolute
 absolute-empty [] l = refl
 absolute-empty (b ∷ s) l = absurd (omega arith)
 
-pub absolute_first : (s : Bytes) → (length s ≡ 0 → ⊥) → eqb (get_or s 0 0) 47 ≡ is_absolute s
+pub absolute-slash : (s : Bytes) → 0 < length s → get_or s 0 0 ≡ 47 → true ≡ is_absolute s
 unfolding is_absolute
-absolute_first [] l = absurd (l refl)
-absolute_first (b ∷ s) l = refl
+absolute-slash [] l h = absurd (omega arith)
+absolute-slash (b ∷ s) l h = sym (eq-eqb b 47 h)
+
+pub absolute-other : (s : Bytes) → (get_or s 0 0 ≡ 47 → ⊥) → false ≡ is_absolute s
+unfolding is_absolute
+absolute-other [] h = refl
+absolute-other (b ∷ s) h = sym (ne_eqb b 47 h)
 
 -- ---- lengths
 

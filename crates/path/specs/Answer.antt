@@ -1,20 +1,19 @@
 -- What the functions that form a path answer, and what they leave in the lent buffer.
 -- Assumes nothing.
-use Rattle.std.specs.Prelude.{Bool, true, false, cond, List, [], ◌∷◌, ◌++◌, ◌≡◌, ℕ, ◌+◌, ◌-◌, ◌≤◌, ◌<◌, leb, length, take, drop, get_or}
+use Rattle.std.specs.Prelude.{Bool, true, false, cond, List, [], ◌∷◌, ◌++◌, ◌≡◌, ℕ, ◌+◌, ◌-◌, ◌≤◌, ◌<◌, leb, length, take, drop, get_or, Option, Some, None, Result, Ok, Err}
 use Rattle.text.specs.Utf8.{Bytes}
 use Rattle.path.specs.Path.{Name, pieces, normal, absolute, body, last_name}
 use Rattle.path.specs.Backward.{sift, sifted, mk, front, part}
-use Rattle.path.specs.declared.answer.Formed.{Formed}
-use Rattle.path.specs.declared.answer.Formed.TheVariants.{Text, TooLong}
+use Rattle.path.specs.declared.answer.TooLong.{TooLong}
 use Rattle.path.specs.declared.answer.Kept.{Kept}
-use Rattle.path.specs.declared.answer.Last.{Last}
-use Rattle.path.specs.declared.answer.Last.TheVariants.{At, Left}
 use Rattle.path.specs.declared.answer.Place.{Place}
-use Rattle.path.specs.declared.answer.Place.TheVariants.{InPath, InCwd, Nowhere}
-use Rattle.path.specs.declared.answer.Plain.{Plain}
-use Rattle.path.specs.declared.answer.Plain.TheVariants.{From, No}
+use Rattle.path.specs.declared.answer.Place.TheVariants.{InPath, InCwd}
 use Rattle.path.specs.declared.answer.Back.{Back}
 use Rattle.path.specs.declared.answer.Back.TheVariants.{Gone, Keeps}
+
+-- the length of a formed text, or refusal 6
+abbrev pub Formed : Type 0
+Formed = Result ℕ TooLong
 
 -- the first, or the second
 abbrev pub pick : Bool → Formed → Formed → Formed
@@ -23,7 +22,7 @@ pick false a b = b
 
 -- the length of the text t, or refusal 6
 unfoldable pub formed : Bytes → Formed
-formed t = pick (leb (length t) 1024) (Text (length t)) TooLong
+formed t = pick (leb (length t) 1024) (Ok (length t)) (Err (record {}))
 
 -- the text t stands in front and nothing else is changed; a refusal changes nothing
 unfoldable pub written : Bytes → Bytes → Bytes
@@ -40,14 +39,14 @@ pub record Forms (t before after : Bytes) (r : Formed) : Type 0 where
 
 -- 01's number for each answer: 0, accepted, or 6
 abbrev pub refusal_of : Formed → ℕ
-refusal_of (Text n) = 0
-refusal_of TooLong = 6
+refusal_of (Ok n) = 0
+refusal_of (Err e) = 6
 
--- the last name of the path once absolute is that part of the path or of the current directory; Nowhere: it is the root
-abbrev pub PlaceIs : Place → Bytes → Bytes → Type 0
-PlaceIs (InPath a e) path cwd = (a ≤ e) × (e ≤ length path) × (last_name (absolute (normal cwd) path) ≡ part a e path)
-PlaceIs (InCwd a e) path cwd = (a ≤ e) × (e ≤ length cwd) × (last_name (absolute (normal cwd) path) ≡ part a e cwd)
-PlaceIs Nowhere path cwd = absolute (normal cwd) path ≡ []
+-- the last name of the path once absolute is that part of the path or of the current directory; None: it is the root
+abbrev pub PlaceIs : Option Place → Bytes → Bytes → Type 0
+PlaceIs (Some (InPath a e)) path cwd = (a ≤ e) × (e ≤ length path) × (last_name (absolute (normal cwd) path) ≡ part a e path)
+PlaceIs (Some (InCwd a e)) path cwd = (a ≤ e) × (e ≤ length cwd) × (last_name (absolute (normal cwd) path) ≡ part a e cwd)
+PlaceIs None path cwd = absolute (normal cwd) path ≡ []
 
 -- the pieces are all kept, whether `..` is a name or drops one
 abbrev pub AllNames : Bytes → Type 0
@@ -57,10 +56,10 @@ AllNames s = (strike : Bool) → sift strike (pieces s) (mk 0 []) ≡ mk 0 (piec
 abbrev pub EndIs : Bytes → ℕ → Type 0
 EndIs s e = (e ≤ length s) × ((strike : Bool) → sifted strike 0 s ≡ sift strike (front (e + 1) s) (mk 0 []))
 
--- From: the pieces from a to e are all kept, and nothing else is, where what stands behind the text drops k names
-abbrev pub PlainIs : Plain → Bool → ℕ → Bytes → Type 0
-PlainIs (From a e) strike k s = (a ≤ e) × (e ≤ length s) × (sifted strike k s ≡ mk 0 (pieces (part a e s)))
-PlainIs No strike k s = Unit {0}
+-- the pieces from the first place to the second are all kept, and nothing else is, where what stands behind the text drops k names
+abbrev pub PlainIs : Option (ℕ × ℕ) → Bool → ℕ → Bytes → Type 0
+PlainIs (Some p) strike k s = (p.0 ≤ p.1) × (p.1 ≤ length s) × (sifted strike k s ≡ mk 0 (pieces (part p.0 p.1 s)))
+PlainIs None strike k s = Unit {0}
 
 -- what a text keeps, where what stands behind it drops k names
 pub record KeptIs (strike : Bool) (s : Bytes) (k : ℕ) (r : Kept) : Type 0 where
@@ -69,10 +68,10 @@ pub record KeptIs (strike : Bool) (s : Bytes) (k : ℕ) (r : Kept) : Type 0 wher
   pub few : r.skip ≤ k + length s + 1
   pub plain : PlainIs r.plain strike k s
 
--- At: the last name kept stands from a to e. Left: none is kept, and j names in front of the text are dropped
-abbrev pub LastIs : Last → Bytes → ℕ → Type 0
-LastIs (At a e) s k = (a ≤ e) × (e ≤ length s) × (init : List Name) × ((sifted true k s).kept ≡ init ++ (part a e s ∷ []))
-LastIs (Left j) s k = (sifted true k s ≡ mk j []) × (j ≤ k + length s + 1)
+-- Ok: the last name kept stands between these two places. Err: none is kept, and j names in front of the text are dropped
+abbrev pub LastIs : Result (ℕ × ℕ) ℕ → Bytes → ℕ → Type 0
+LastIs (Ok p) s k = (p.0 ≤ p.1) × (p.1 ≤ length s) × (init : List Name) × ((sifted true k s).kept ≡ init ++ (part p.0 p.1 s ∷ []))
+LastIs (Err j) s k = (sifted true k s ≡ mk j []) × (j ≤ k + length s + 1)
 
 -- the piece that ends at e begins at a
 pub record PieceIs (s : Bytes) (a e : ℕ) : Type 0 where

@@ -5,16 +5,18 @@ use Rattle.std.specs.Prelude.{Bool, true, false, ℕ, zero, suc, ◌-◌, take, 
 use mathlib.Core.List.{List, [], ◌∷◌, drop_last}
 use Rattle.text.specs.Utf8.{Bytes}
 use Rattle.path.specs.Path.{Name, pieces, vanishes, is_up}
+use Rattle.path.specs.declared.pieces.Piece.{Piece}
+use Rattle.path.specs.declared.pieces.Piece.TheVariants as kind
 
 -- the kind of a piece, by what the tests below say of it
-abbrev pub kind_by : Bool → Bool → Bool → ℕ
-kind_by strike true up = 0
-kind_by true false true = 1
-kind_by false false true = 2
-kind_by strike false false = 2
+abbrev pub kind_by : Bool → Bool → Bool → Piece
+kind_by strike true up = kind.Vanishes
+kind_by true false true = kind.Drops
+kind_by false false true = kind.Name
+kind_by strike false false = kind.Name
 
--- 0: the piece vanishes; 1: it is a `..` that drops a name; 2: it is a name. `strike`: whether `..` drops a name or is one
-unfoldable pub kind_of : Bool → Name → ℕ
+-- it vanishes, or it is a `..` that drops a name, or a name. `strike`: whether `..` drops a name or is one
+unfoldable pub kind_of : Bool → Name → Piece
 kind_of strike n = kind_by strike (vanishes n) (is_up n)
 
 -- the names that stay, and how many names before them are dropped
@@ -32,10 +34,10 @@ keep_one zero n ns = mk 0 (n ∷ ns)
 keep_one (suc k) n ns = mk k ns
 
 -- a piece of the kind in front of what was read
-abbrev pub sift_one : ℕ → Name → Sifted → Sifted
-sift_one zero n z = z
-sift_one (suc zero) n z = mk (suc z.skip) z.kept
-sift_one (suc (suc k)) n z = keep_one z.skip n z.kept
+abbrev pub sift_one : Piece → Name → Sifted → Sifted
+sift_one kind.Vanishes n z = z
+sift_one kind.Drops n z = mk (suc z.skip) z.kept
+sift_one kind.Name n z = keep_one z.skip n z.kept
 
 -- a path read from its end, piece by piece
 unfoldable pub sift : Bool → List Name → Sifted → Sifted

@@ -3,30 +3,23 @@ ghost use Rattle.std.specs.Prelude.{◌≡◌, ◌-◌, ◌<◌, ◌≤◌, leng
 ghost use Rattle.path.specs.Answer.{PieceIs, WholeIs};
 ghost use Rattle.path.specs.Backward.{kind_of};
 
-// 0: the piece vanishes, as the empty one and `.` do; 1: it is a `..` that drops a name; 2: it is a name.
-pub fn kind_of(n: &[u8], strike: bool) -> u8
+// The kind of a piece: it vanishes, as the empty one and `.` do; it is a `..` that drops a name; it is a name.
+#[derive(Clone, Copy, PartialEq, Eq)]
+pub enum Piece {
+    Vanishes,
+    Drops,
+    Name,
+}
+
+// `strike`: whether `..` drops a name or is one.
+pub fn kind_of(n: &[u8], strike: bool) -> Piece
     ensures { result ≡ kind_of strike n.now }
 {
-    let len = n.len();
-    if 2 < len {
-        return 2;
+    match n {
+        [] | [b'.'] => Piece::Vanishes,
+        [b'.', b'.'] if strike => Piece::Drops,
+        _ => Piece::Name,
     }
-    if len == 0 {
-        return 0;
-    }
-    if n[0] != 46 {
-        return 2;
-    }
-    if len == 1 {
-        return 0;
-    }
-    if n[1] != 46 {
-        return 2;
-    }
-    if strike {
-        return 1;
-    }
-    2
 }
 
 // Where the piece that ends at e begins.

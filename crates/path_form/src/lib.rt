@@ -5,7 +5,7 @@ ghost use Rattle.path.specs.Answer.{Forms};
 ghost use Rattle.path.specs.Backward.{sifted};
 ghost use Rattle.path.specs.Path.{names, norm, normal, absolute, is_absolute, body};
 
-use path::answer::{Formed, Plain};
+use path::answer::TooLong;
 use path::bytes::put_name;
 use path_scan::plain::find_plain;
 use path_scan::sifting::{measure, measure_back, put_back, put_kept};
@@ -17,43 +17,40 @@ pub mod link;
 pub fn is_absolute(s: &[u8]) -> bool
     ensures { result ≡ is_absolute s.now }
 {
-    if s.len() == 0 {
-        return false;
-    }
-    s[0] == 47
+    matches!(s, [b'/', ..])
 }
 
 // What a path that is not plain keeps. It is measured first, since a refusal writes nothing. `strike`: whether `..` drops a name.
-fn form_mixed(out: &mut [u8], path: &[u8], strike: bool) -> Formed
+fn form_mixed(out: &mut [u8], path: &[u8], strike: bool) -> Result<usize, TooLong>
     requires { 1024 ≤ length out.old }
     ensures { Forms (body (sifted strike 0 path.now).kept) out.old out.new result }
 {
     let p = measure_back(path, strike, 0);
     let kept = p.len;
     if 1024 < kept {
-        return Formed::TooLong;
+        return Err(TooLong);
     }
     put_back(out, kept, path, strike, 0);
-    Formed::Text(kept)
+    Ok(kept)
 }
 
 // What the path keeps. A plain one is copied at once.
-fn form(out: &mut [u8], path: &[u8], strike: bool) -> Formed
+fn form(out: &mut [u8], path: &[u8], strike: bool) -> Result<usize, TooLong>
     requires { 1024 ≤ length out.old }
     ensures { Forms (body (sifted strike 0 path.now).kept) out.old out.new result }
 {
-    if let Plain::From(a, e) = find_plain(path) {
+    if let Some((a, e)) = find_plain(path) {
         if 1023 < e - a {
-            return Formed::TooLong;
+            return Err(TooLong);
         }
         put_name(out, 0, &path[a..e]);
-        return Formed::Text(e - a + 1);
+        return Ok(e - a + 1);
     }
     form_mixed(out, path, strike)
 }
 
 // The path behind the directory `dir`: both are read from the end, so that no longer text is ever formed on the way.
-fn join(out: &mut [u8], dir: &[u8], path: &[u8]) -> Formed
+fn join(out: &mut [u8], dir: &[u8], path: &[u8]) -> Result<usize, TooLong>
     requires { 1024 ≤ length out.old }
     ensures { Forms (body (norm (normal dir.now) (names path.now))) out.old out.new result }
 {
@@ -62,27 +59,27 @@ fn join(out: &mut [u8], dir: &[u8], path: &[u8]) -> Formed
     let last = p.len;
     let first = d.len;
     if 1024 < first {
-        return Formed::TooLong;
+        return Err(TooLong);
     }
     if 1024 - first < last {
-        return Formed::TooLong;
+        return Err(TooLong);
     }
     let len = first + last;
     let path_plain = p.plain;
     let dir_plain = d.plain;
     put_kept(out, len, path, true, 0, path_plain);
     put_kept(out, first, dir, true, p.skip, dir_plain);
-    Formed::Text(len)
+    Ok(len)
 }
 
-pub fn normalize_path(out: &mut [u8], path: &[u8]) -> Formed
+pub fn normalize_path(out: &mut [u8], path: &[u8]) -> Result<usize, TooLong>
     requires { 1024 ≤ length out.old }
     ensures { Forms (body (normal path.now)) out.old out.new result }
 {
     form(out, path, true)
 }
 
-pub fn to_absolute_path(out: &mut [u8], cwd: &[u8], path: &[u8]) -> Formed
+pub fn to_absolute_path(out: &mut [u8], cwd: &[u8], path: &[u8]) -> Result<usize, TooLong>
     requires { 1024 ≤ length out.old }
     ensures { Forms (body (absolute (normal cwd.now) path.now)) out.old out.new result }
 {
@@ -93,7 +90,7 @@ pub fn to_absolute_path(out: &mut [u8], cwd: &[u8], path: &[u8]) -> Formed
 }
 
 // Set times' reading: the names of the path as they stand, `..` among them.
-pub fn raw_path(out: &mut [u8], path: &[u8]) -> Formed
+pub fn raw_path(out: &mut [u8], path: &[u8]) -> Result<usize, TooLong>
     requires { 1024 ≤ length out.old }
     ensures { Forms (body (names path.now)) out.old out.new result }
 {

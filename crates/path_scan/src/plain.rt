@@ -3,8 +3,6 @@ ghost use Rattle.std.specs.Prelude.{◌≡◌, Bool, true, ◌≤◌, ◌<◌, l
 ghost use Rattle.path.specs.Answer.{AllNames, Clean, EndIs, PlainIs};
 ghost use Rattle.path.specs.Backward.{part};
 
-use path::answer::Plain;
-
 // Whether no slash of s[at..end] has a slash or a dot behind it.
 fn clean(s: &[u8], at: usize, end: usize) -> bool
     requires { (at ≤ end) × (end < length s.now) }
@@ -55,21 +53,23 @@ fn all_names(s: &[u8], from: usize, end: usize) -> bool
     clean(s, from, last)
 }
 
-pub fn find_plain(s: &[u8]) -> Plain
+// The places between which the pieces of the text are all names, where beside them stand at most a slash in front and one at
+// the end. None: perhaps the text is not so.
+pub fn find_plain(s: &[u8]) -> Option<(usize, usize)>
     ensures { (strike : Bool) → PlainIs result strike 0 s.now }
 {
-    if s.len() == 0 {
-        return Plain::No;
+    if s.is_empty() {
+        return None;
     }
     let end = text_end(s);
-    if s[0] == 47 {
+    if s[0] == b'/' {
         if all_names(s, 1, end) {
-            return Plain::From(1, end);
+            return Some((1, end));
         }
-        return Plain::No;
+        return None;
     }
     if all_names(s, 0, end) {
-        return Plain::From(0, end);
+        return Some((0, end));
     }
-    Plain::No
+    None
 }

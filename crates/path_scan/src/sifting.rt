@@ -5,9 +5,9 @@ ghost use Rattle.path.specs.Backward.{sifted, drop_n};
 ghost use Rattle.path.specs.Path.{body, names};
 
 use crate::plain::find_plain;
-use path::answer::{Back, Kept, Last, Plain};
+use path::answer::{Back, Kept};
 use path::bytes::put_name;
-use path::pieces::{kind_of, piece_start};
+use path::pieces::{Piece, kind_of, piece_start};
 
 // The last of the pieces of s[..rest - 1], where `skip` names are still dropped. `strike`: whether `..` drops a name.
 fn read_back(s: &[u8], rest: usize, strike: bool, skip: usize) -> Back
@@ -16,17 +16,12 @@ fn read_back(s: &[u8], rest: usize, strike: bool, skip: usize) -> Back
 {
     let e = rest - 1;
     let a = piece_start(s, e);
-    let k = kind_of(&s[a..e], strike);
-    if k == 0 {
-        return Back::Gone(a, skip);
+    match kind_of(&s[a..e], strike) {
+        Piece::Vanishes => Back::Gone(a, skip),
+        Piece::Drops => Back::Gone(a, skip + 1),
+        Piece::Name if skip > 0 => Back::Gone(a, skip - 1),
+        Piece::Name => Back::Keeps(a),
     }
-    if k == 1 {
-        return Back::Gone(a, skip + 1);
-    }
-    if skip > 0 {
-        return Back::Gone(a, skip - 1);
-    }
-    Back::Keeps(a)
 }
 
 // How much of the text is kept, where what stands behind it drops `behind` names.
@@ -52,7 +47,7 @@ pub fn measure_back(s: &[u8], strike: bool, behind: usize) -> Kept
     Kept {
         len,
         skip,
-        plain: Plain::No,
+        plain: None,
     }
 }
 
@@ -84,19 +79,19 @@ pub fn measure(s: &[u8], strike: bool, behind: usize) -> Kept
     requires { behind ≤ 9223372036854775808 }
     ensures { KeptIs strike s.now behind result }
 {
-    if s.len() == 0 {
+    if s.is_empty() {
         return Kept {
             len: 0,
             skip: behind,
-            plain: Plain::No,
+            plain: None,
         };
     }
     if behind == 0 {
-        if let Plain::From(a, e) = find_plain(s) {
+        if let Some((a, e)) = find_plain(s) {
             return Kept {
                 len: e - a + 1,
                 skip: 0,
-                plain: Plain::From(a, e),
+                plain: Some((a, e)),
             };
         }
     }
@@ -104,15 +99,22 @@ pub fn measure(s: &[u8], strike: bool, behind: usize) -> Kept
 }
 
 // The same as `put_back`, at once where there is no text or it is plain.
-pub fn put_kept(out: &mut [u8], end: usize, s: &[u8], strike: bool, behind: usize, plain: Plain)
+pub fn put_kept(
+    out: &mut [u8],
+    end: usize,
+    s: &[u8],
+    strike: bool,
+    behind: usize,
+    plain: Option<(usize, usize)>,
+)
     requires { PlainIs plain strike behind s.now × (behind ≤ 9223372036854775808) × (end ≤ length out.old)
         × (length (body (sifted strike behind s.now).kept) ≤ end) }
     ensures { out.new ≡ ends_at end (body (sifted strike behind s.now).kept) out.old }
 {
-    if s.len() == 0 {
+    if s.is_empty() {
         return;
     }
-    if let Plain::From(a, e) = plain {
+    if let Some((a, e)) = plain {
         let at = end - (e - a + 1);
         put_name(out, at, &s[a..e]);
         return;
@@ -120,8 +122,8 @@ pub fn put_kept(out: &mut [u8], end: usize, s: &[u8], strike: bool, behind: usiz
     put_back(out, end, s, strike, behind)
 }
 
-// Where the last name that is kept stands.
-pub fn last_kept(s: &[u8], behind: usize) -> Last
+// Where the last name that is kept stands, or else how many names in front of the text are dropped.
+pub fn last_kept(s: &[u8], behind: usize) -> Result<(usize, usize), usize>
     requires { behind ≤ 9223372036854775808 }
     ensures { LastIs result s.now behind }
 {
@@ -134,11 +136,11 @@ pub fn last_kept(s: &[u8], behind: usize) -> Last
                 skip = k;
             }
             Back::Keeps(a) => {
-                return Last::At(a, rest - 1);
+                return Ok((a, rest - 1));
             }
         }
     }
-    Last::Left(skip)
+    Err(skip)
 }
 
 // The length of s[..have], a path of the working buffers, without its last k names.

@@ -1,9 +1,13 @@
 -- `path_form::is_absolute` meets its contract.
-use Rattle.path.proofs.Texts.{absolute-empty, absolute_first}
+use native.Mathlib.Omega.{arith}
+use Rattle.path.proofs.Texts.{absolute-empty, absolute-slash, absolute-other}
 use Rattle.path_form.proofs.is_absolute.Goals as goal
 
-pub returns-then-s-eq0 : goal.returns-then-s-eq0
-returns-then-s-eq0 c = absolute-empty _ c.if-s-eq0.true
+pub returns-in-47 : goal.returns-in-47
+returns-in-47 c = absolute-slash _ (omega arith) (omega arith)
 
-pub returns : goal.returns
-returns c = absolute_first _ c.if-s-eq0.false
+pub returns-in_default : goal.returns-in_default
+returns-in_default c = absolute-empty _ (omega arith)
+
+pub returns-in_default-2 : goal.returns-in_default-2
+returns-in_default-2 c = absolute-other _ (λ e. omega arith)

@@ -4,23 +4,26 @@ use native.Mathlib.Omega.{arith}
 use Rattle.path.proofs.Dots.{kind_none, kind-long, kind_other, kind-dot, kind_two, kind-struck, kind-named}
 use Rattle.path.proofs.pieces.kind_of.Goals as goal
 
-pub returns-then-len-gt2 : goal.returns-then-len-gt2
-returns-then-len-gt2 c = sym (kind-long _ _ c.if-len-gt2.true)
+pub returns-in-empty : goal.returns-in-empty
+returns-in-empty c = sym (kind_none _ _ (omega arith))
 
-pub returns-then-len-eq0 : goal.returns-then-len-eq0
-returns-then-len-eq0 c = sym (kind_none _ _ c.if-len-eq0.true)
+pub returns-in-empty-2 : goal.returns-in-empty-2
+returns-in-empty-2 c = sym (kind-dot _ _ (omega arith) (omega arith))
 
-pub returns-then-n-ne46 : goal.returns-then-n-ne46
-returns-then-n-ne46 c = sym (kind_other _ _ (omega arith) c.if-n-ne46.true)
+pub returns-in_default : goal.returns-in_default
+returns-in_default c = sym (kind_other _ _ (omega arith) (λ e. omega arith))
 
-pub returns-then-len-eq1 : goal.returns-then-len-eq1
-returns-then-len-eq1 c = sym (kind-dot _ _ c.if-len-eq1.true c.if-n-ne46.false)
+pub returns-in-46 : goal.returns-in-46
+returns-in-46 c = sym (kind-struck _ _ (omega arith) (omega arith) (omega arith) c.if-strike.true)
 
-pub returns-then-n-ne46-2 : goal.returns-then-n-ne46-2
-returns-then-n-ne46-2 c = sym (kind_two _ _ (omega arith) c.if-n-ne46-2.true)
+pub returns-in_default-2 : goal.returns-in_default-2
+returns-in_default-2 c = sym (kind-named _ _ (omega arith) (omega arith) (omega arith) c.if-strike.false)
 
-pub returns-then-strike : goal.returns-then-strike
-returns-then-strike c = sym (kind-struck _ _ (omega arith) c.if-n-ne46.false c.if-n-ne46-2.false c.if-strike.true)
+pub returns-in_default-3 : goal.returns-in_default-3
+returns-in_default-3 c = sym (kind_two _ _ (omega arith) (λ e. omega arith))
 
-pub returns : goal.returns
-returns c = sym (kind-named _ _ (omega arith) c.if-n-ne46.false c.if-n-ne46-2.false c.if-strike.false)
+pub returns-in_default-4 : goal.returns-in_default-4
+returns-in_default-4 c = sym (kind_other _ _ (omega arith) (λ e. omega arith))
+
+pub returns-in_default-5 : goal.returns-in_default-5
+returns-in_default-5 c = sym (kind-long _ _ (omega arith))

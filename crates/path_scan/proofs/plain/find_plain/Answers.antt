@@ -2,8 +2,8 @@
 use Rattle.path.proofs.Following.{plain-absolute, plain-relative}
 use Rattle.path_scan.proofs.plain.find_plain.Goals as goal
 
-pub returns-then-s-eq0 : goal.returns-then-s-eq0
-returns-then-s-eq0 c = λ _. tt
+pub returns-then-is_empty : goal.returns-then-is_empty
+returns-then-is_empty c = λ _. tt
 
 pub all_names-requires : goal.all_names-requires
 all_names-requires c = c.text_end-end.ensures.0

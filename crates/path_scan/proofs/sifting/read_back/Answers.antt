@@ -4,36 +4,32 @@ use Prim.Native.Nat.{◌-◌}
 use native.Mathlib.Omega.{arith}
 use Rattle.path.specs.Backward.{part}
 use Rattle.path.proofs.Cutting.{part_length}
-use Rattle.path.proofs.Dots.{named, up_length}
+use Rattle.path.proofs.Dots.{up_length}
 use Rattle.path.proofs.Reading.{back-gone, back_up, back-dropped, back-kept}
 use Rattle.path_scan.proofs.sifting.read_back.Goals as goal
 
-pub returns-then-k-eq0 : goal.returns-then-k-eq0
-returns-then-k-eq0 c =
-    let f = c in let p = c.piece_start-a in
-    back-gone f.args.strike f.args.s.now f.args.rest p.result f.requires.0 p.ensures f.args.skip
-    (sym c.kind_of-k.ensures ∙ c.if-k-eq0.true)
+pub returns-in-Vanishes : goal.returns-in-Vanishes
+returns-in-Vanishes c =
+    let a = c.args in let p = c.piece_start-a in
+    back-gone a.strike a.s.now a.rest p.result c.requires.0 p.ensures a.skip (sym c.kind_of.ensures ∙ c.in-Vanishes.is)
 
 pub overflow_add-result : goal.overflow_add-result
 overflow_add-result c =
-    let f = c in let p = c.piece_start-a in
-    let n = part p.result (f.args.rest - 1) f.args.s.now in
-    omega (arith, f.requires, up_length f.args.strike n (sym c.kind_of-k.ensures ∙ c.if-k-eq1.true), part_length p.result (f.args.rest - 1) f.args.s.now (omega (arith, f.requires.1)))
+    let a = c.args in let p = c.piece_start-a in
+    let n = part p.result (a.rest - 1) a.s.now in
+    omega (arith, c.requires, up_length a.strike n (sym c.kind_of.ensures ∙ c.in-Drops.is), part_length p.result (a.rest - 1) a.s.now (omega (arith, c.requires.1)))
 
-pub returns-then-k-eq1 : goal.returns-then-k-eq1
-returns-then-k-eq1 c =
-    let f = c in let p = c.piece_start-a in
-    back_up f.args.strike f.args.s.now f.args.rest p.result f.requires.0 p.ensures f.args.skip
-    (sym c.kind_of-k.ensures ∙ c.if-k-eq1.true)
+pub returns-in-Drops : goal.returns-in-Drops
+returns-in-Drops c =
+    let a = c.args in let p = c.piece_start-a in
+    back_up a.strike a.s.now a.rest p.result c.requires.0 p.ensures a.skip (sym c.kind_of.ensures ∙ c.in-Drops.is)
 
-pub returns-then-skip-gt0 : goal.returns-then-skip-gt0
-returns-then-skip-gt0 c =
-    let f = c in let p = c.piece_start-a in let k = c.kind_of-k in
-    back-dropped f.args.strike f.args.s.now f.args.rest p.result f.requires.0 p.ensures f.args.skip
-    (named k.result _ _ k.ensures c.if-k-eq0.false c.if-k-eq1.false) c.if-skip-gt0.true
+pub returns-in-Name : goal.returns-in-Name
+returns-in-Name c =
+    let a = c.args in let p = c.piece_start-a in
+    back-dropped a.strike a.s.now a.rest p.result c.requires.0 p.ensures a.skip (sym c.kind_of.ensures ∙ c.in-Name.is) c.if-skip-gt0.true
 
-pub returns : goal.returns
-returns c =
-    let f = c in let p = c.piece_start-a in let k = c.kind_of-k in
-    back-kept f.args.strike f.args.s.now f.args.rest p.result f.requires.0 p.ensures f.args.skip
-    (named k.result _ _ k.ensures c.if-k-eq0.false c.if-k-eq1.false) (omega arith)
+pub returns-in-Name-2 : goal.returns-in-Name-2
+returns-in-Name-2 c =
+    let a = c.args in let p = c.piece_start-a in
+    back-kept a.strike a.s.now a.rest p.result c.requires.0 p.ensures a.skip (sym c.kind_of.ensures ∙ c.in-Name.is) (omega arith)
