@@ -11,7 +11,7 @@ use lib.Seq.{take-append_seam, drop-append_seam}
 use borrow.Author.Tests.{leb-true}
 use Rattle.text.specs.Utf8.{Bytes, text}
 use Rattle.path.specs.Path.{Name, is_up, is_absolute, pieces, names, norm, normal, from, absolute, followed, body, lengths_ok, path_fits, proper}
-use Rattle.path.specs.Answer.{Formed, pick, formed, written, Forms}
+use Rattle.path.specs.Answer.{Formed, too_long, pick, formed, written, Forms}
 use Rattle.std.specs.Prelude.{Ok, Err}
 use Rattle.path.proofs.Every.{Every, every_append, every-keep, every-norm}
 use Rattle.path.proofs.Laws.{Shown, Short, every_map, every_all, settled, proper-shown, shown-proper, names-shown, names-body, norm-proper, lengths_short, pieces-text}
@@ -115,10 +115,10 @@ pub formed_is : (q : List Name) (before after : Bytes) (r : Formed) → Every Sh
 unfolding path_fits formed written
 formed_is q before after r all f = go (leb (length (body q)) 1024) refl f.answer f.buffer
   where
-    go : (b : Bool) → leb (length (body q)) 1024 ≡ b → r ≡ pick (leb (length (body q)) 1024) (Ok (length (body q))) (Err (record {}))
+    go : (b : Bool) → leb (length (body q)) 1024 ≡ b → r ≡ pick (leb (length (body q)) 1024) (Ok (length (body q))) too_long
         → after ≡ cond (leb (length (body q)) 1024) (body q ++ drop (length (body q)) before) before → FormedIs q before after r
     go true z x y =
-        let x2 : r ≡ Ok (length (body q)) = x ∙ ap (λ (b : Bool). pick b (Ok (length (body q))) (Err (record {}))) z in
+        let x2 : r ≡ Ok (length (body q)) = x ∙ ap (λ (b : Bool). pick b (Ok (length (body q))) too_long) z in
         let y2 : after ≡ body q ++ drop (length (body q)) before = y ∙ ap (λ (b : Bool). cond b (body q ++ drop (length (body q)) before) before) z in
         let k : take (length (body q)) after ≡ body q = ap (take (length (body q))) y2 ∙ take-append_seam (body q) (drop (length (body q)) before) in
         subst (FormedIs q before after) (sym x2)
@@ -131,7 +131,7 @@ formed_is q before after r all f = go (leb (length (body q)) 1024) refl f.answer
           behind = ap (drop (length (body q))) y2 ∙ drop-append_seam (body q) (drop (length (body q)) before);
         })
     go false z x y =
-        subst (FormedIs q before after) (sym (x ∙ ap (λ (b : Bool). pick b (Ok (length (body q))) (Err (record {}))) z))
+        subst (FormedIs q before after) (sym (x ∙ ap (λ (b : Bool). pick b (Ok (length (body q))) too_long) z))
         (z, y ∙ ap (λ (b : Bool). cond b (body q ++ drop (length (body q)) before) before) z)
 
 -- what stands there is allowed where the path's names are

@@ -13,15 +13,15 @@ use Rattle.blocks.specs.Moved.{moved}
 use Rattle.blocks.proofs.Laws.{moved-split}
 use Rattle.path.specs.Path.{Name, names, norm, normal, from, is_absolute, absolute, body}
 use Rattle.path.specs.Backward.{sifted, drop_n, Sifted, part}
-use Rattle.path.specs.Answer.{Formed, formed, written, Forms}
-use Rattle.std.specs.Prelude.{Ok, Err}
+use Rattle.path.specs.Answer.{Formed, too_long, formed, written, Forms}
+use Rattle.std.specs.Prelude.{Ok}
 use Rattle.path.proofs.Dropping.{drop_n-nil}
 use Rattle.path.proofs.Reading.{norm-sifted, raw-sifted, body-append}
 
 -- ---- the two answers
 
 module _ (t before : Bytes) where
-  pub forms-long : 1024 < length t → Forms t before before (Err (record {}))
+  pub forms-long : 1024 < length t → Forms t before before too_long
   unfolding formed written
   forms-long h = record { answer = rw (lt-leb (length t) 1024 h); buffer = rw (lt-leb (length t) 1024 h) }
 
@@ -59,7 +59,7 @@ stored t out after end e w =
     let z : end - length t ≡ 0 = omega arith in
     w ∙ rw (z, e)
 
-pub both_long : (a b out : Bytes) (first : ℕ) → first ≡ length a → 1024 < first + length b → Forms (a ++ b) out out (Err (record {}))
+pub both_long : (a b out : Bytes) (first : ℕ) → first ≡ length a → 1024 < first + length b → Forms (a ++ b) out out too_long
 both_long a b out first e h = forms-long (a ++ b) out (omega (arith, length-append a b))
 
 module _ (a b out mid after : Bytes) (first last : ℕ) (ea : first ≡ length a) (eb : last ≡ length b) (fits : first + last ≤ length out)
@@ -129,7 +129,7 @@ module _ (out target : Bytes) (dir : List Name) (first kept skip rest len : ℕ)
   target-length : length (body (absolute dir target)) ≡ first + kept
   target-length = omega (arith, simp length-append at (ap length parts), length-take-le first out room)
 
-  pub follow-long : 1024 < first + kept + length (part rest len out) → Forms (body (absolute dir target) ++ part rest len out) out out (Err (record {}))
+  pub follow-long : 1024 < first + kept + length (part rest len out) → Forms (body (absolute dir target) ++ part rest len out) out out too_long
   follow-long h = forms-long (body (absolute dir target) ++ part rest len out) out
       (omega (arith, target-length, length-append (body (absolute dir target)) (part rest len out)))
 

@@ -15,6 +15,10 @@ use Rattle.path.specs.declared.answer.Back.TheVariants.{Gone, Keeps}
 abbrev pub Formed : Type 0
 Formed = Result ℕ TooLong
 
+-- refusal 6
+abbrev pub too_long : Formed
+too_long = Err (record {})
+
 -- the first, or the second
 abbrev pub pick : Bool → Formed → Formed → Formed
 pick true a b = a
@@ -22,7 +26,7 @@ pick false a b = b
 
 -- the length of the text t, or refusal 6
 unfoldable pub formed : Bytes → Formed
-formed t = pick (leb (length t) 1024) (Ok (length t)) (Err (record {}))
+formed t = pick (leb (length t) 1024) (Ok (length t)) too_long
 
 -- the text t stands in front and nothing else is changed; a refusal changes nothing
 unfoldable pub written : Bytes → Bytes → Bytes
