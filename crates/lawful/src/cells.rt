@@ -6,7 +6,7 @@ ghost use Rattle.lawful_limits.specs.Settles.{Settles};
 ghost use Rattle.lawful.specs.Parts.{piece_ok, kept_in, number_in, Kept};
 
 use layout::{CELL_BYTES, FILE_NUMBERS, HERE_AT, HOLDER_AT, KEPT_AT, NUMBER_WORDS};
-use path::pieces::{kind_of, piece_start};
+use path::pieces::{Piece, kind_of, piece_start};
 use text::text_ok;
 
 // The greatest length of a kept path.
@@ -16,7 +16,7 @@ const LONGEST: u64 = CELL_BYTES as u64;
 pub fn piece_ok(n: &[u8]) -> bool
     ensures { result ≡ piece_ok n.now }
 {
-    if kind_of(n, true) != 2 {
+    if kind_of(n, true) != Piece::Name {
         return false;
     }
     if 255 < n.len() {

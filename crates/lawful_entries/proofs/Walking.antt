@@ -13,6 +13,7 @@ use borrow.Author.Tests.{lt-ltb, le-ltb, eq-eqb, ne_eqb, ltb-true, eqb-true, eqb
 use Rattle.text.specs.Utf8.{Bytes}
 use Rattle.path.specs.Path.{Name, vanishes, is_up}
 use Rattle.path.specs.Backward.{kind_by, kind_of}
+use Rattle.path.specs.declared.pieces.Piece.TheVariants as kind
 use Rattle.model.specs.Tree.{Path, precedes}
 use Rattle.model.specs.Prog.{is_nil}
 use Rattle.layout.specs.Fields.{depth_of, nlen_of, slot_of}
@@ -111,20 +112,20 @@ module _ (bs : Bytes) (last : List ℕ) (d : ℕ) (l : d ≤ length last) where
 
 -- ---- one entry
 
-pub form-ok : (n : Name) → kind_of true n ≡ 2 → form_ok n ≡ true
+pub form-ok : (n : Name) → kind_of true n ≡ kind.Name → form_ok n ≡ true
 unfolding kind_of
 form-ok n e = go (vanishes n) (is_up n) e
   where
-    go : (v u : Bool) → kind_by true v u ≡ 2 → not v && not u ≡ true
-    go true u e = absurd (omega arith)
-    go false true e = absurd (omega arith)
+    go : (v u : Bool) → kind_by true v u ≡ kind.Name → not v && not u ≡ true
+    go true u e = absurd cc
+    go false true e = absurd cc
     go false false e = refl
 
-pub form-bad : (n : Name) → (kind_of true n ≡ 2 → ⊥) → form_ok n ≡ false
+pub form-bad : (n : Name) → (kind_of true n ≡ kind.Name → ⊥) → form_ok n ≡ false
 unfolding kind_of
 form-bad n e = go (vanishes n) (is_up n) e
   where
-    go : (v u : Bool) → (kind_by true v u ≡ 2 → ⊥) → not v && not u ≡ false
+    go : (v u : Bool) → (kind_by true v u ≡ kind.Name → ⊥) → not v && not u ≡ false
     go true u e = refl
     go false true e = refl
     go false false e = absurd (e refl)
@@ -133,10 +134,10 @@ module _ (n : ℕ) (p : Path) (d : Bool) (r : Row) where
   pub fits-slot : n ≤ r.slot → false ≡ entry_fits n p d r
   fits-slot h = rw (le-ltb r.slot n h)
 
-  pub fits-form : r.slot < n → (kind_of true r.name ≡ 2 → ⊥) → false ≡ entry_fits n p d r
+  pub fits-form : r.slot < n → (kind_of true r.name ≡ kind.Name → ⊥) → false ≡ entry_fits n p d r
   fits-form h e = rw (lt-ltb r.slot n h, form-bad r.name e)
 
-  pub fits-rest : r.slot < n → kind_of true r.name ≡ 2 → follows p d r.depth r.name ≡ entry_fits n p d r
+  pub fits-rest : r.slot < n → kind_of true r.name ≡ kind.Name → follows p d r.depth r.name ≡ entry_fits n p d r
   fits-rest h e = rw (lt-ltb r.slot n h, form-ok r.name e)
 
   -- what an entry that fits has

@@ -9,7 +9,7 @@ ghost use Rattle.lawful_entries.specs.Fits.{kind_in, entry_fits, walk_fits, rows
 
 use crate::rising::rises;
 use layout::{DEPTHS, KINDS, LENGTHS, MOST_ENTRIES, NAME_LENGTHS, SLOT_UNIT};
-use path::pieces::kind_of;
+use path::pieces::{Piece, kind_of};
 
 // A path has fewer names than there are entries.
 const MOST_NAMES: usize = MOST_ENTRIES as usize;
@@ -62,7 +62,7 @@ fn entry_ok(
     }
     let e = off + (w / DEPTHS % NAME_LENGTHS) as usize;
     let name = &bytes[off..e];
-    if kind_of(name, true) != 2 {
+    if kind_of(name, true) != Piece::Name {
         return false;
     }
     follows_ok(last, bytes, name, (w % DEPTHS) as usize, d, dir)
