@@ -9,12 +9,11 @@ use Prim.Native.Nat.{ℕ, ◌≤◌}
 use native.Mathlib.Omega.{arith}
 use lib.ListN.{length, take, drop}
 use lib.Seq.{take-take, length-take-le}
+use Rattle.std.specs.Prelude.{Ok, Err}
 use Rattle.text.specs.Utf8.{Bytes}
 use Rattle.path.specs.Path.{Name, names, absolute, followed, body, path_fits}
 use Rattle.path.specs.Backward.{part}
-use Rattle.path.specs.Answer.{Forms}
-use Rattle.path.specs.declared.answer.Formed.{Formed}
-use Rattle.path.specs.declared.answer.Formed.TheVariants.{Text, TooLong}
+use Rattle.path.specs.Answer.{Formed, Forms}
 use Rattle.path.proofs.Allowed.{FormedIs, formed_is, absolute-shown}
 use Rattle.path.proofs.Cutting.{drop_of_take}
 use Rattle.path.proofs.Every.{Every, every_append, every-drop_last}
@@ -36,11 +35,11 @@ use Rattle.walk.specs.Lookups.{behind, Kept, Follows}
 -- what was formed is the model's answer to whether the path fits, and is a path
 pub formed-run : (w : World) (q : Path) (before after : Bytes) (r : Formed) → FormedIs q before after r
     → (allowed (path_fits q) path_too_long (done q w) ≡ behind w after r) × Kept after r
-formed-run w q before after (Text n) f = (
+formed-run w q before after (Ok n) f = (
   ap (λ (b : Bool). allowed b path_too_long (done q w)) (is_true (path_fits q) f.fits) ∙ ap (λ (p : Path). done p w) (sym f.path),
   (f.few, ap body f.path ∙ sym f.text),
 )
-formed-run w q before after TooLong f = (ap (λ (b : Bool). allowed b path_too_long (done q w)) f.0, tt)
+formed-run w q before after (Err e) f = (ap (λ (b : Bool). allowed b path_too_long (done q w)) f.0, tt)
 
 -- the model's path behind a link whose target is s
 behind-run : (w : World) (d : Path) (r : List Name) (s : Bytes) → answer (target? d) w ≡ some s

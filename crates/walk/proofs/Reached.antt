@@ -7,6 +7,7 @@ use mathlib.Core.Path.{◌≡◌, refl, sym, ap, ◌∙◌, subst}
 use Prim.Native.Nat.{ℕ, zero, suc, ◌+◌, ◌≤◌, ◌<◌}
 use native.Mathlib.Omega.{arith}
 use lib.ListN.{length, take, drop, get_or, length-drop}
+use Rattle.std.specs.Prelude.{Ok, Err}
 use Rattle.text.specs.Utf8.{Bytes}
 use Rattle.path.specs.Path.{Name, names, body}
 use Rattle.path.specs.Backward.{part}
@@ -18,14 +19,18 @@ use Rattle.model.specs.Tree.{Path}
 use Rattle.model.specs.Prog.{World, Kind, a_dir, aFile, a_link, kind?, answer, ◌>>=◌, done, refused, run}
 use Rattle.model.specs.Lookup.{End, found, missing, ends, mid_link, arrived, onward, until_symlink}
 use Rattle.model.specs.Calls.States.{State}
+use Rattle.layout.specs.declared.kind.Kind as own
+use Rattle.layout.specs.declared.kind.Kind.TheVariants as is
+use Rattle.layout.specs.Kinds.{kind_from}
 use Rattle.layout.specs.Store.{Store, count}
 use Rattle.edit_room.specs.Extents.{trim}
 use Rattle.ask_find.specs.declared.Gap.{Gap}
 use Rattle.ask_find.specs.declared.Spot.{Spot}
 use Rattle.ask_find.specs.Spots.{Vacant}
-use Rattle.ask_entry.specs.Reads.{kind_from}
+use Rattle.refusal.specs.declared.Refusal.TheVariants.{NotDirectory}
 use Rattle.store.specs.Shows.{says, There}
-use Rattle.walk.specs.declared.Met.TheVariants.{Found, Missing, LastLink, MidLink, NotDirectory}
+use Rattle.walk.specs.declared.End.TheVariants.{Found, Missing, LastLink}
+use Rattle.walk.specs.declared.Met.TheVariants.{Ends, MidLink}
 use Rattle.walk.specs.Meets.{Plain, LinkAt, the_root, a_name, Meets}
 
 -- ---- the model's walk, by what stands at its path
@@ -52,19 +57,12 @@ module _ (w : World) (d : Path) where
   unfolding until_symlink run ◌>>=◌ onward
   until-link x r e = ap (λ (o : Option Kind). run (onward d (x ∷ r) o) w) e
 
--- ---- a kind by its number
-
-pub kind-dir : (k : ℕ) → (k ≡ 1 → ⊥) → k ≤ 1 → kind_from k ≡ a_dir
-kind-dir zero f g = refl
-kind-dir (suc zero) f g = absurd (f refl)
-kind-dir (suc (suc k)) f g = absurd (omega (arith, g))
-
 -- one that is no link's is found
-found-kind : (d : Path) (k : ℕ) → k ≤ 1 → arrived d (some (kind_from k)) ≡ found d (kind_from k)
+found-kind : (d : Path) (k : own.Kind) → (k ≡ is.Link → ⊥) → arrived d (some (kind_from k)) ≡ found d (kind_from k)
 unfolding arrived
-found-kind d zero g = refl
-found-kind d (suc zero) g = refl
-found-kind d (suc (suc k)) g = absurd (omega (arith, g))
+found-kind d is.Directory n = refl
+found-kind d is.File n = refl
+found-kind d is.Link n = absurd (n refl)
 
 -- ---- the walk over the store
 
@@ -80,7 +78,7 @@ pub record Reached (st : Store) (s : State) (w : World) (text : Bytes) (spot : S
   pub same : run (until_symlink [] (names text)) w ≡ run (until_symlink here rest) w
 
 module _ (st : Store) (s : State) (w : World) (h : ℕ) (text : Bytes) where
-  pub no_root : (g : Gap) → count st ≡ 0 → answer (kind? []) w ≡ none → Meets st s w h text (Missing g 0)
+  pub no_root : (g : Gap) → count st ≡ 0 → answer (kind? []) w ≡ none → Meets st s w h text (Ok (Ends (Missing g 0)))
   no_root g z e = record { answer = until_none w [] (names text) e; place = the_root refl z e }
 
   pub at-root : (spot : Spot) → Plain text → There st s w [] spot → Reached st s w text spot 0 0
@@ -102,8 +100,8 @@ module _ (st : Store) (s : State) (w : World) (h : ℕ) (text : Bytes) where
     kind = answer (kind? r.here) w
 
     -- the kind in the state is the one in the world
-    pub kind-is : (k : ℕ) → says (kind? r.here) s ≡ some (kind_from k) → (m : Kind) → kind_from k ≡ m → kind ≡ some m
-    kind-is k z m y = r.there.kind ∙ z ∙ ap some y
+    pub kind-is : (m : Kind) → says (kind? r.here) s ≡ some m → kind ≡ some m
+    kind-is m z = r.there.kind ∙ z
 
     linked : kind ≡ some a_link → LinkAt st s w text spot u e
     linked k =
@@ -127,11 +125,11 @@ module _ (st : Store) (s : State) (w : World) (h : ℕ) (text : Bytes) where
           r.same ∙ ap (λ (x : List Name). run (until_symlink r.here x) w) (cut-end text e r.here r.rest r.cut l) ∙ until_end w r.here k z
           ∙ ap (λ (d : Path). done (ends (arrived d (some k))) w) (sym all)
 
-      pub at-last-link : kind ≡ some a_link → Meets st s w h text (LastLink spot u)
+      pub at-last-link : kind ≡ some a_link → Meets st s w h text (Ok (Ends (LastLink spot u)))
       unfolding arrived
       at-last-link k = record { answer = at-end a_link k; place = subst (LinkAt st s w text spot u) (omega (arith, r.fits, l)) (linked k) }
 
-      pub at_entry : (k : ℕ) → k ≤ 1 → kind ≡ some (kind_from k) → Meets st s w h text (Found spot k)
+      pub at_entry : (k : own.Kind) → (k ≡ is.Link → ⊥) → kind ≡ some (kind_from k) → Meets st s w h text (Ok (Ends (Found spot k)))
       at_entry k g z =
           record {
             answer = at-end (kind_from k) z ∙ ap (λ (x : End). done (ends x) w) (found-kind (names text) k g);
@@ -148,12 +146,12 @@ module _ (st : Store) (s : State) (w : World) (h : ℕ) (text : Bytes) where
       first-name (n ∷ m) z = (n, m, z)
 
       -- at what is no directory
-      pub at-file : kind ≡ some aFile → Meets st s w h text NotDirectory
+      pub at-file : kind ≡ some aFile → Meets st s w h text (Err NotDirectory)
       at-file k =
           let f = first-name r.rest refl in
           record { answer = r.same ∙ ap (λ (x : List Name). run (until_symlink r.here x) w) f.2 ∙ until-file w r.here f.0 f.1 k; place = tt }
 
-      pub at-link : kind ≡ some a_link → Meets st s w h text (MidLink spot u e)
+      pub at-link : kind ≡ some a_link → Meets st s w h text (Ok (MidLink spot u e))
       at-link k =
           let f = first-name r.rest refl in
           record {
@@ -172,7 +170,7 @@ module _ (st : Store) (s : State) (w : World) (h : ℕ) (text : Bytes) where
         onto = r.same ∙ ap (λ (x : List Name). run (until_symlink r.here x) w) nx.rest ∙ until-dir w r.here nx.name nx.more k
 
         pub at-gone : (g : Gap) → answer (kind? (r.here ++ (part (e + 1) b text ∷ []))) w ≡ none → Vacant (trim st) h r.here (part (e + 1) b text) g
-            → Meets st s w h text (Missing g e)
+            → Meets st s w h text (Ok (Ends (Missing g e)))
         at-gone g z v =
             let y : answer (kind? (r.here ++ (nx.name ∷ []))) w ≡ none = ap (λ (n : Name). answer (kind? (r.here ++ (n ∷ []))) w) (sym nx.is) ∙ z in
             record {

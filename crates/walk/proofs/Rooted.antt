@@ -9,6 +9,7 @@ use Prim.Native.Nat.{ℕ, ◌<◌}
 use native.Mathlib.Omega.{arith}
 use lib.Dec.{leb}
 use borrow.Author.Tests.{leb-true, leb-false}
+use Rattle.std.specs.Prelude.{Ok}
 use Rattle.model.specs.Tree.{Path, Node, behind}
 use Rattle.model.specs.Prog.{World, Kind, kind?, node_kind, on_some, answer, take, apply}
 use Rattle.model.specs.Calls.States.{State, world_of}
@@ -16,7 +17,6 @@ use Rattle.model.proofs.Entries.{cut_out}
 use Rattle.layout.specs.Store.{Store, count, state}
 use Rattle.edit_room.specs.Extents.{trim}
 use Rattle.ask_find.specs.declared.Spot.{Spot}
-use Rattle.ask_find.specs.declared.Look.TheVariants.{Found}
 use Rattle.ask_find.specs.Paths.{path_at}
 use Rattle.ask_find.specs.Spots.{At, nothing}
 use Rattle.ask_find.proofs.Children.{path_one, root-found}
@@ -37,7 +37,7 @@ pub never : (st : Store) (s : State) (h : ℕ) (w : World) → Asked st s h w �
 never st s h w (whole g) e z = e
 never st s h w (without q g y) e z = absurd (omega (arith, g, z))
 
-module _ (st : Store) (s : State) (x : Shows st s) (spot : Spot) (f : RootIs st s (Found spot)) where
+module _ (st : Store) (s : State) (x : Shows st s) (spot : Spot) (f : RootIs st s (Ok spot)) where
   -- the root is an entry, and has a kind
   root_at : At (trim st) spot []
   root_at = f.0

@@ -1,6 +1,6 @@
 -- What is there at a path, the directory that it leads to, and the entry of its last name; and which run of the model each is.
 -- Assumes nothing.
-use Rattle.std.specs.Prelude.{List, [], ◌∷◌, ◌++◌, ◌≡◌, ℕ, take}
+use Rattle.std.specs.Prelude.{List, [], ◌∷◌, ◌++◌, ◌≡◌, ℕ, take, Result, Ok, Err}
 use Rattle.std.proofs.Math.Option.{none, some}
 use Rattle.text.specs.Utf8.{Bytes}
 use Rattle.path.specs.Path.{Name, names}
@@ -9,46 +9,46 @@ use Rattle.model.specs.Prog.{World, a_dir, kind?, answer, Prog, Out, done, refus
 use Rattle.model.specs.Lookup.{Where}
 use Rattle.model.specs.Operations.Steps as model
 use Rattle.model.specs.Calls.States.{State}
+use Rattle.layout.specs.Kinds.{kind_from}
 use Rattle.layout.specs.Store.{Store}
 use Rattle.layout.specs.Lent.{Lending}
 use Rattle.edit_room.specs.Extents.{trim}
+use Rattle.refusal.specs.declared.Refusal.{Refusal}
+use Rattle.refusal.specs.Numbers.{number_of}
 use Rattle.ask_find.specs.Spots.{Vacant}
-use Rattle.ask_entry.specs.Reads.{kind_from}
 use Rattle.store.specs.Shows.{Asked, There, Of}
+use Rattle.walk.specs.declared.There as led
 use Rattle.walk.specs.declared.leads.Last.{Last}
-use Rattle.walk.specs.declared.leads.Last.TheVariants as last
-use Rattle.walk.specs.declared.leads.Led.{Led}
-use Rattle.walk.specs.declared.leads.Led.TheVariants as led
-use Rattle.walk.specs.Lookups.{InFront}
+use Rattle.walk.specs.declared.leads.Last.TheVariants.{Found, Missing}
+use Rattle.walk.specs.Lookups.{InFront, EntryPlaced}
 
 -- the run that each answer stands for
-abbrev pub leads_to : World → List Path → Bytes → Led → Out model.There
-leads_to w ls out (led.There spot k n c) = done (record { path = names (take n out); kind = kind_from k; links = ls }) w
-leads_to w ls out (led.Refused r) = refused r
+abbrev pub leads_to : World → List Path → Bytes → Result led.There Refusal → Out model.There
+leads_to w ls out (Ok t) = done (record { path = names (take t.len out); kind = kind_from t.kind; links = ls }) w
+leads_to w ls out (Err r) = refused (number_of r)
 
 -- what the numbers of an answer are
-abbrev pub LedPlaced : Store → State → World → List Path → Bytes → Led → Type 0
-LedPlaced st s w ls out (led.There spot k n c) =
-    InFront ls out n c × There st s w (names (take n out)) spot × (answer (kind? (names (take n out))) w ≡ some (kind_from k))
-LedPlaced st s w ls out (led.Refused r) = Unit {0}
+abbrev pub LedPlaced : Store → State → World → List Path → Bytes → Result led.There Refusal → Type 0
+LedPlaced st s w ls out (Ok t) = EntryPlaced st s w ls out t
+LedPlaced st s w ls out (Err r) = Unit {0}
 
 -- one of the model's steps from a path to what is there, at the path in the text
-pub record Leads (step : Path → Prog model.There) (st : Store) (s : State) (w : World) (text out : Bytes) (r : Led) : Type 0 where
+pub record Leads (step : Path → Prog model.There) (st : Store) (s : State) (w : World) (text out : Bytes) (r : Result led.There Refusal) : Type 0 where
   pub links : List Path
   pub answer : run (step (names text)) w ≡ leads_to w links out r
   pub place : LedPlaced st s w links out r
 
 -- of every world that a store with the slices shows, the entry of record h being out
-abbrev pub LeadsIn : Lending → (Path → Prog model.There) → Bytes → ℕ → Bytes → Led → Type 0
+abbrev pub LeadsIn : Lending → (Path → Prog model.There) → Bytes → ℕ → Bytes → Result led.There Refusal → Type 0
 LeadsIn l step text h out r = Of l (λ st s. (w : World) → Asked st s h w → Leads step st s w text out r)
 
 -- ---- the entry of a last name
 
 -- the run that each answer stands for, where the last name is x
-abbrev pub last_at : World → List Path → Bytes → Name → Last → Out Where
-last_at w ls out x (last.Found spot k n c) = done (record { path = names (take n out) ++ (x ∷ []); kind = some (kind_from k); links = ls }) w
-last_at w ls out x (last.Missing gap n c) = done (record { path = names (take n out) ++ (x ∷ []); kind = none; links = ls }) w
-last_at w ls out x (last.Refused r) = refused r
+abbrev pub last_at : World → List Path → Bytes → Name → Result Last Refusal → Out Where
+last_at w ls out x (Ok (Found t)) = done (record { path = names (take t.len out) ++ (x ∷ []); kind = some (kind_from t.kind); links = ls }) w
+last_at w ls out x (Ok (Missing gap n c)) = done (record { path = names (take n out) ++ (x ∷ []); kind = none; links = ls }) w
+last_at w ls out x (Err r) = refused (number_of r)
 
 -- the front of the buffer is the path of a directory
 pub record DirInFront (w : World) (ls : List Path) (out : Bytes) (n c : ℕ) : Type 0 where
@@ -56,19 +56,20 @@ pub record DirInFront (w : World) (ls : List Path) (out : Bytes) (n c : ℕ) : T
   pub dir : answer (kind? (names (take n out))) w ≡ some a_dir
 
 -- what the numbers of an answer are
-abbrev pub LastPlaced : Store → State → World → ℕ → List Path → Bytes → Name → Last → Type 0
-LastPlaced st s w h ls out x (last.Found spot k n c) =
-    DirInFront w ls out n c × There st s w (names (take n out) ++ (x ∷ [])) spot × (answer (kind? (names (take n out) ++ (x ∷ []))) w ≡ some (kind_from k))
-LastPlaced st s w h ls out x (last.Missing gap n c) =
+abbrev pub LastPlaced : Store → State → World → ℕ → List Path → Bytes → Name → Result Last Refusal → Type 0
+LastPlaced st s w h ls out x (Ok (Found t)) =
+    DirInFront w ls out t.len t.links × There st s w (names (take t.len out) ++ (x ∷ [])) t.spot
+    × (answer (kind? (names (take t.len out) ++ (x ∷ []))) w ≡ some (kind_from t.kind))
+LastPlaced st s w h ls out x (Ok (Missing gap n c)) =
     DirInFront w ls out n c × (answer (kind? (names (take n out) ++ (x ∷ []))) w ≡ none) × Vacant (trim st) h (names (take n out)) x gap
-LastPlaced st s w h ls out x (last.Refused r) = Unit {0}
+LastPlaced st s w h ls out x (Err r) = Unit {0}
 
 -- the entry x of the directory to which the path in the text leads
-pub record LastIs (st : Store) (s : State) (w : World) (h bound : ℕ) (text : Bytes) (x : Name) (out : Bytes) (r : Last) : Type 0 where
+pub record LastIs (st : Store) (s : State) (w : World) (h bound : ℕ) (text : Bytes) (x : Name) (out : Bytes) (r : Result Last Refusal) : Type 0 where
   pub links : List Path
   pub answer : run (model.last_entry bound (names text ++ (x ∷ []))) w ≡ last_at w links out x r
   pub place : LastPlaced st s w h links out x r
 
 -- of every world that a store with the slices shows, the entry of record h being out
-abbrev pub LastIn : Lending → Bytes → Name → ℕ → ℕ → Bytes → Last → Type 0
+abbrev pub LastIn : Lending → Bytes → Name → ℕ → ℕ → Bytes → Result Last Refusal → Type 0
 LastIn l text x h bound out r = Of l (λ st s. (w : World) → Asked st s h w → LastIs st s w h bound text x out r)

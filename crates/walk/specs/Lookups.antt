@@ -1,41 +1,41 @@
 -- What the lookups through links answer of a path in a store, and which run of the model it is (01, "Lookups"). The path stands in the
 -- front of a working buffer, and so does the path that a lookup comes to.
 -- Assumes nothing.
-use Rattle.std.specs.Prelude.{List, ◌++◌, ◌≡◌, ℕ, ◌≤◌, length, take, drop}
+use Rattle.std.specs.Prelude.{List, ◌++◌, ◌≡◌, ℕ, ◌≤◌, length, take, drop, Result, Ok, Err}
 use Rattle.std.proofs.Math.Option.{none, some}
 use Rattle.text.specs.Utf8.{Bytes}
 use Rattle.path.specs.Path.{names}
-use Rattle.path.specs.declared.answer.Formed.{Formed}
-use Rattle.path.specs.declared.answer.Formed.TheVariants.{Text, TooLong}
+use Rattle.path.specs.Answer.{Formed}
 use Rattle.model.specs.Refusals.{path_too_long}
 use Rattle.model.specs.Tree.{Path}
 use Rattle.model.specs.Prog.{World, kind?, answer, Out, done, refused, run}
-use Rattle.model.specs.Lookup.{found, missing, last_link, behind_link, no_follow, most_links, following}
+use Rattle.model.specs.Lookup.{behind_link, no_follow, most_links, following}
 use Rattle.model.specs.Lookup as model
 use Rattle.model.specs.Calls.States.{State}
+use Rattle.layout.specs.Kinds.{kind_from}
 use Rattle.layout.specs.Store.{Store}
 use Rattle.layout.specs.Lent.{Lending}
+use Rattle.refusal.specs.declared.Refusal.{Refusal}
+use Rattle.refusal.specs.Numbers.{number_of}
 use Rattle.ask_find.specs.declared.Spot.{Spot}
-use Rattle.ask_entry.specs.Reads.{kind_from}
 use Rattle.store.specs.Shows.{Shows, Asked, There, Of}
-use Rattle.walk.specs.declared.lookup.End.{End}
-use Rattle.walk.specs.declared.lookup.End.TheVariants as end
+use Rattle.walk.specs.declared.There as led
 use Rattle.walk.specs.declared.lookup.Walked.{Walked}
 use Rattle.walk.specs.declared.lookup.Looked.{Looked}
-use Rattle.walk.specs.declared.lookup.Looked.TheVariants as looked
-use Rattle.walk.specs.Meets.{Plain, LinkAt, FirstMissing}
+use Rattle.walk.specs.declared.lookup.Looked.TheVariants.{Found, Missing}
+use Rattle.walk.specs.Meets.{Plain, LinkAt, FirstMissing, end_of, EndPlaced}
 
 -- ---- behind a link
 
 -- the run that each answer stands for: the path that now stands in front, or 6
 abbrev pub behind : World → Bytes → Formed → Out Path
-behind w out (Text n) = done (names (take n out)) w
-behind w out TooLong = refused path_too_long
+behind w out (Ok n) = done (names (take n out)) w
+behind w out (Err e) = refused path_too_long
 
 -- the front of the buffer is a path
 abbrev pub Kept : Bytes → Formed → Type 0
-Kept out (Text n) = (n ≤ 1024) × Plain (take n out)
-Kept out TooLong = Unit {0}
+Kept out (Ok n) = (n ≤ 1024) × Plain (take n out)
+Kept out (Err e) = Unit {0}
 
 -- the path behind the link to which the first e bytes of the text lead
 pub record Follows (w : World) (text : Bytes) (e : ℕ) (out : Bytes) (r : Formed) : Type 0 where
@@ -52,41 +52,10 @@ SomeLink has text spot d e = (st : Store) × (s : State) × (h : ℕ) × (w : Wo
 
 -- ---- links before the last name
 
--- the run that each end stands for, with the links that were followed
-abbrev pub ends_by : World → List Path → Bytes → End → Out model.Walked
-ends_by w ls text (end.Found spot k) = done (record { end = found (names text) (kind_from k); links = ls }) w
-ends_by w ls text (end.Missing gap e) = done (record { end = missing (names text); links = ls }) w
-ends_by w ls text (end.LastLink spot d) = done (record { end = last_link (names text); links = ls }) w
-ends_by w ls text (end.Refused n) = refused n
-
--- what the numbers of an end are
-abbrev pub EndPlaced : Store → State → World → ℕ → Bytes → End → Type 0
-EndPlaced st s w h text (end.Found spot k) = There st s w (names text) spot × (answer (kind? (names text)) w ≡ some (kind_from k))
-EndPlaced st s w h text (end.Missing gap e) = FirstMissing st h w text gap e
-EndPlaced st s w h text (end.LastLink spot d) = LinkAt st s w text spot d (length text)
-EndPlaced st s w h text (end.Refused n) = Unit {0}
-
--- "how many links it followed": the answer's count is the number of links that the model's walk lists
-pub record Walks (st : Store) (s : State) (w : World) (h : ℕ) (text out : Bytes) (r : Walked) : Type 0 where
-  pub links : List Path
-  pub counted : length links ≡ r.links
-  pub few : r.links ≤ 40
-  pub answer : (ls : List Path) → run (no_follow most_links (names text) ls) w ≡ ends_by w (ls ++ links) (take r.len out) r.end
-  pub place : EndPlaced st s w h (take r.len out) r.end
-  pub fits : r.len ≤ 1024
-  pub plain : Plain (take r.len out)
-
--- of every world that a store with the slices shows
-abbrev pub WalksIn : Lending → Bytes → ℕ → Bytes → Walked → Type 0
-WalksIn l text h out r = Of l (λ st s. (w : World) → Asked st s h w → Walks st s w h text out r)
-
--- ---- all links
-
--- the run that each answer stands for
-abbrev pub reaches : World → List Path → Bytes → Looked → Out model.Where
-reaches w ls out (looked.Found spot k n c) = done (record { path = names (take n out); kind = some (kind_from k); links = ls }) w
-reaches w ls out (looked.Missing gap e n c) = done (record { path = names (take n out); kind = none; links = ls }) w
-reaches w ls out (looked.Refused r) = refused r
+-- the run that each answer stands for, with the links that were followed
+abbrev pub ends_by : World → List Path → Bytes → Result Walked Refusal → Out model.Walked
+ends_by w ls out (Ok r) = done (record { end = end_of (take r.len out) r.end; links = ls }) w
+ends_by w ls out (Err e) = refused (number_of e)
 
 -- the front of the buffer is the path that the lookup came to, and so many links were followed
 pub record InFront (ls : List Path) (out : Bytes) (n c : ℕ) : Type 0 where
@@ -95,18 +64,45 @@ pub record InFront (ls : List Path) (out : Bytes) (n c : ℕ) : Type 0 where
   pub plain : Plain (take n out)
 
 -- what the numbers of an answer are
-abbrev pub LookPlaced : Store → State → World → ℕ → List Path → Bytes → Looked → Type 0
-LookPlaced st s w h ls out (looked.Found spot k n c) =
-    InFront ls out n c × There st s w (names (take n out)) spot × (answer (kind? (names (take n out))) w ≡ some (kind_from k))
-LookPlaced st s w h ls out (looked.Missing gap e n c) = InFront ls out n c × FirstMissing st h w (take n out) gap e
-LookPlaced st s w h ls out (looked.Refused r) = Unit {0}
+abbrev pub WalkPlaced : Store → State → World → ℕ → List Path → Bytes → Result Walked Refusal → Type 0
+WalkPlaced st s w h ls out (Ok r) = InFront ls out r.len r.links × (r.links ≤ 40) × EndPlaced st s w h (take r.len out) r.end
+WalkPlaced st s w h ls out (Err e) = Unit {0}
+
+-- "how many links it followed": the answer's count is the number of links that the model's walk lists
+pub record Walks (st : Store) (s : State) (w : World) (h : ℕ) (text out : Bytes) (r : Result Walked Refusal) : Type 0 where
+  pub links : List Path
+  pub answer : (ls : List Path) → run (no_follow most_links (names text) ls) w ≡ ends_by w (ls ++ links) out r
+  pub place : WalkPlaced st s w h links out r
+
+-- of every world that a store with the slices shows
+abbrev pub WalksIn : Lending → Bytes → ℕ → Bytes → Result Walked Refusal → Type 0
+WalksIn l text h out r = Of l (λ st s. (w : World) → Asked st s h w → Walks st s w h text out r)
+
+-- ---- all links
+
+-- the run that each answer stands for
+abbrev pub reaches : World → List Path → Bytes → Result Looked Refusal → Out model.Where
+reaches w ls out (Ok (Found t)) = done (record { path = names (take t.len out); kind = some (kind_from t.kind); links = ls }) w
+reaches w ls out (Ok (Missing a)) = done (record { path = names (take a.len out); kind = none; links = ls }) w
+reaches w ls out (Err r) = refused (number_of r)
+
+-- the path in front of the buffer is that of an entry, and its spot and its kind are told
+abbrev pub EntryPlaced : Store → State → World → List Path → Bytes → led.There → Type 0
+EntryPlaced st s w ls out t =
+    InFront ls out t.len t.links × There st s w (names (take t.len out)) t.spot × (answer (kind? (names (take t.len out))) w ≡ some (kind_from t.kind))
+
+-- what the numbers of an answer are
+abbrev pub LookPlaced : Store → State → World → ℕ → List Path → Bytes → Result Looked Refusal → Type 0
+LookPlaced st s w h ls out (Ok (Found t)) = EntryPlaced st s w ls out t
+LookPlaced st s w h ls out (Ok (Missing a)) = InFront ls out a.len a.links × FirstMissing st h w (take a.len out) a.gap a.upto
+LookPlaced st s w h ls out (Err r) = Unit {0}
 
 -- the lookup of the path in the text, with a bound on last links
-pub record Looks (st : Store) (s : State) (w : World) (h bound : ℕ) (text out : Bytes) (r : Looked) : Type 0 where
+pub record Looks (st : Store) (s : State) (w : World) (h bound : ℕ) (text out : Bytes) (r : Result Looked Refusal) : Type 0 where
   pub links : List Path
   pub answer : (ls : List Path) → run (following bound (names text) ls) w ≡ reaches w (ls ++ links) out r
   pub place : LookPlaced st s w h links out r
 
 -- of every world that a store with the slices shows
-abbrev pub LooksIn : Lending → Bytes → ℕ → ℕ → Bytes → Looked → Type 0
+abbrev pub LooksIn : Lending → Bytes → ℕ → ℕ → Bytes → Result Looked Refusal → Type 0
 LooksIn l text h bound out r = Of l (λ st s. (w : World) → Asked st s h w → Looks st s w h bound text out r)

@@ -2,109 +2,87 @@
 ghost use Rattle.std.specs.Prelude.{◌≤◌, ◌<◌, length, take};
 ghost use Rattle.model.specs.Operations.Steps as steps;
 ghost use Rattle.layout.specs.Numbers.{most_entries};
-ghost use Rattle.layout.specs.Lent.{◌∘◌, with_words, with_records, with_heads, with_bytes, still};
-ghost use Rattle.layout.specs.Lent.{◌&◌};
+ghost use Rattle.layout.specs.Lent.{with_tree, still};
 ghost use Rattle.store.specs.Shows.{Some};
 ghost use Rattle.walk.specs.Meets.{Plain};
 ghost use Rattle.walk.specs.Leads.{LeadsIn, LastIn};
 
+use crate::There;
 use crate::lookup::{Looked, lookup_entry_detail};
-use ask_find::{Gap, Look, Spot};
+use ask_find::Gap;
+use layout::kind::Kind;
+use layout::slices::Tree;
+use refusal::Refusal;
 
-// An entry that is no link, a directory (0) or a file (1), with the length of its path, which now stands in front of the buffer, and how
-// many links were followed.
-#[derive(Drop)]
-pub enum Led {
-    There(Spot, u8, usize, usize),
-    Refused(u32),
-}
-
-// The path in out[..len] leads to an entry that is there; 8: it does not.
+// The path in out[..len] leads to an entry that is there, no link; NotFound: it does not.
 pub fn leads(
-    words: &[u64],
-    records: &[u64],
-    heads: &[u64],
-    bytes: &[u8],
+    tree: Tree,
     out: &mut [u8],
     len: usize,
     hidden: usize,
     bound: usize,
-) -> Led
-    requires { Some (with_words words.now ∘ with_records records.now ∘ with_heads heads.now ∘ with_bytes bytes.now)
-        × (len ≤ 1024) × (1024 ≤ length out.old) × Plain (take len out.old) × (bound ≤ most_entries) × (0 < hidden) }
-    ensures { LeadsIn (still (with_words words.now ∘ with_records records.now ∘ with_heads heads.now ∘ with_bytes bytes.now)) (steps.leads bound)
-        (take len out.old) hidden out.new result }
+) -> Result<There, Refusal>
+    requires { Some (with_tree tree) × (len ≤ 1024) × (1024 ≤ length out.old) × Plain (take len out.old) × (bound ≤ most_entries) × (0 < hidden) }
+    ensures { LeadsIn (still (with_tree tree.entry)) (steps.leads bound) (take len out.old) hidden out.new result }
 {
-    match lookup_entry_detail(words, records, heads, bytes, out, len, hidden, bound) {
-        Looked::Found(spot, kind, n, links) => Led::There(spot, kind, n, links),
-        Looked::Missing(_, _, _, _) => Led::Refused(8),
-        Looked::Refused(r) => Led::Refused(r),
+    match lookup_entry_detail(tree, out, len, hidden, bound)? {
+        Looked::Found(there) => Ok(there),
+        Looked::Missing(_) => Err(Refusal::NotFound),
     }
 }
 
-// find_directory_mut: the path in out[..len] leads to a directory; 8: missing, 9: a file.
+// find_directory_mut: the path in out[..len] leads to a directory; NotFound: missing, NotDirectory: a file.
 pub fn find_directory(
-    words: &[u64],
-    records: &[u64],
-    heads: &[u64],
-    bytes: &[u8],
+    tree: Tree,
     out: &mut [u8],
     len: usize,
     hidden: usize,
     bound: usize,
-) -> Led
-    requires { Some (with_words words.now ∘ with_records records.now ∘ with_heads heads.now ∘ with_bytes bytes.now)
-        × (len ≤ 1024) × (1024 ≤ length out.old) × Plain (take len out.old) × (bound ≤ most_entries) × (0 < hidden) }
-    ensures { LeadsIn (still (with_words words.now ∘ with_records records.now ∘ with_heads heads.now ∘ with_bytes bytes.now)) (steps.directory bound)
-        (take len out.old) hidden out.new result }
+) -> Result<There, Refusal>
+    requires { Some (with_tree tree) × (len ≤ 1024) × (1024 ≤ length out.old) × Plain (take len out.old) × (bound ≤ most_entries) × (0 < hidden) }
+    ensures { LeadsIn (still (with_tree tree.entry)) (steps.directory bound) (take len out.old) hidden out.new result }
 {
-    match leads(words, records, heads, bytes, out, len, hidden, bound) {
-        Led::There(spot, kind, n, links) => {
-            if kind != 0 {
-                return Led::Refused(9);
-            }
-            Led::There(spot, kind, n, links)
-        }
-        Led::Refused(r) => Led::Refused(r),
+    let there = leads(tree, out, len, hidden, bound)?;
+    match there.kind {
+        Kind::Directory => Ok(there),
+        _ => Err(Refusal::NotDirectory),
     }
 }
 
-// An entry, a directory (0), a file (1) or a link (2), or the place of a missing one; then the length of its directory's path, which now
-// stands in front of the buffer, and how many links were followed.
-#[derive(Drop)]
+// An entry, maybe a link, or the place of a missing one; the length is that of its directory's path, which now stands in front of the
+// buffer.
+#[derive(Clone, Copy)]
 pub enum Last {
-    Found(Spot, u8, usize, usize),
-    Missing(Gap, usize, usize),
-    Refused(u32),
+    Found(There),
+    Missing {
+        gap: Gap,
+        len: usize,
+        links: usize,
+    },
 }
 
 // The entry `name` of the directory to which the path in out[..len] leads, there or not; only that path is followed.
 pub fn last_entry(
-    words: &[u64],
-    records: &[u64],
-    heads: &[u64],
-    bytes: &[u8],
+    tree: Tree,
     out: &mut [u8],
     len: usize,
     name: &[u8],
     hidden: usize,
     bound: usize,
-) -> Last
-    requires { Some (with_words words.now ∘ with_records records.now ∘ with_heads heads.now ∘ with_bytes bytes.now)
-        × (len ≤ 1024) × (1024 ≤ length out.old) × Plain (take len out.old) × (bound ≤ most_entries) × (0 < hidden) }
-    ensures { LastIn (still (with_words words.now ∘ with_records records.now ∘ with_heads heads.now ∘ with_bytes bytes.now)) (take len out.old)
-        name.now hidden bound out.new result }
+) -> Result<Last, Refusal>
+    requires { Some (with_tree tree) × (len ≤ 1024) × (1024 ≤ length out.old) × Plain (take len out.old) × (bound ≤ most_entries) × (0 < hidden) }
+    ensures { LastIn (still (with_tree tree.entry)) (take len out.old) name.now hidden bound out.new result }
 {
-    match find_directory(words, records, heads, bytes, out, len, hidden, bound) {
-        Led::There(dir, _, n, links) => match store::child(
-            words, records, bytes, dir, name, hidden,
-        ) {
-            Look::Found(spot) => {
-                let kind = store::kind(words, records, heads, spot);
-                Last::Found(spot, kind, n, links)
-            }
-            Look::Missing(gap) => Last::Missing(gap, n, links),
-        },
-        Led::Refused(r) => Last::Refused(r),
+    let dir = find_directory(tree, out, len, hidden, bound)?;
+    match store::child(tree.words, tree.records, tree.bytes, dir.spot, name, hidden) {
+        Ok(spot) => {
+            let kind = store::kind(tree.words, tree.records, tree.heads, spot);
+            Ok(Last::Found(There { spot, kind, ..dir }))
+        }
+        Err(gap) => Ok(Last::Missing {
+            gap,
+            len: dir.len,
+            links: dir.links,
+        }),
     }
 }

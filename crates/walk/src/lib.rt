@@ -7,18 +7,32 @@ pub mod lookup;
 pub mod until;
 
 use ask_find::{Gap, Spot};
+use layout::kind::Kind;
 
-// Where a walk from the root came to.
-#[derive(Drop)]
-pub enum Met {
-    // An entry that is no link: a directory (0) or a file (1).
-    Found(Spot, u8),
+// What a walk that follows no last link ends in.
+#[derive(Clone, Copy)]
+pub enum End {
+    // An entry that is no link: a directory or a file.
+    Found(Spot, Kind),
     // No entry: the place of the first missing name, and where in the text the path of its directory ends.
     Missing(Gap, usize),
     // A link at the end, and where the path of its directory ends.
     LastLink(Spot, usize),
+}
+
+// Where a walk from the root came to.
+#[derive(Clone, Copy)]
+pub enum Met {
+    Ends(End),
     // A link before the last name: where the path of its directory ends, and where its own does.
     MidLink(Spot, usize, usize),
-    // A file before the last name.
-    NotDirectory,
+}
+
+// An entry to which a path led, with the length of that path, which now stands in front of the buffer, and how many links were followed.
+#[derive(Clone, Copy)]
+pub struct There {
+    pub spot: Spot,
+    pub kind: Kind,
+    pub len: usize,
+    pub links: usize,
 }

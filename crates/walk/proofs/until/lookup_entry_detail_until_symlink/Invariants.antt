@@ -7,14 +7,15 @@ use Prim.Native.Nat.{◌-◌}
 use lib.ListN.{length}
 use Rattle.model.specs.Prog.{World}
 use Rattle.model.specs.Calls.States.{State}
-use Rattle.layout.specs.Store.{Store, lent}
+use Rattle.layout.specs.Store.{Store}
+use Rattle.layout.specs.Lent.{with_tree}
 use Rattle.store.specs.Shows.{Shows, Asked}
 use Rattle.walk.proofs.Reached.{Reached}
 use Rattle.walk.proofs.until.lookup_entry_detail_until_symlink.Given as goal
 
 abbrev pub invariant-loop-e : goal.invariant-loop-e
-invariant-loop-e l = (st : Store) (s : State) (w : World) → Shows (lent l.words l.records l.heads st.times st.paths l.bytes) s
-    → Asked (lent l.words l.records l.heads st.times st.paths l.bytes) s l.hidden w → Reached (lent l.words l.records l.heads st.times st.paths l.bytes) s w l.path l.spot l.dir l.e
+invariant-loop-e l = (st : Store) (s : State) (w : World) → Shows (with_tree l.tree st) s → Asked (with_tree l.tree st) s l.hidden w
+    → Reached (with_tree l.tree st) s w l.path l.spot l.dir l.e
 
 abbrev pub decreases-loop-e : goal.decreases-loop-e
 decreases-loop-e l = length l.path - l.e
