@@ -1,5 +1,6 @@
 // One case: a good store made anew, changed, and what the test of refusal 1 says of it.
 use crate::store::{change, put_text, put_word, put_words};
+use layout::slices::Slices;
 use std::io::{Result, Write};
 use test_fields::{field, front, same};
 use test_shown::read::number;
@@ -78,14 +79,14 @@ fn accepted(
     bytes: &[u8],
     lengths: &[u64],
 ) -> bool {
-    lawful::store_ok(
-        front_words(words, word(lengths, 0) as usize),
-        front_words(records, word(lengths, 1) as usize),
-        front_words(heads, word(lengths, 2) as usize),
-        front_times(times, word(lengths, 3) as usize),
-        front(paths, word(lengths, 4) as usize),
-        front(bytes, word(lengths, 5) as usize),
-    )
+    lawful::store_ok(Slices {
+        words: front_words(words, word(lengths, 0) as usize),
+        records: front_words(records, word(lengths, 1) as usize),
+        heads: front_words(heads, word(lengths, 2) as usize),
+        times: front_times(times, word(lengths, 3) as usize),
+        paths: front(paths, word(lengths, 4) as usize),
+        bytes: front(bytes, word(lengths, 5) as usize),
+    })
 }
 
 fn say_answer<W: Write>(out: &mut W, ok: bool) -> Result<()> {
@@ -150,7 +151,7 @@ pub fn tried<W: Write>(out: &mut W, line: &[u8], what: &[u8]) -> Result<()> {
     let p: &mut [u8] = &mut paths;
     let b: &mut [u8] = &mut bytes;
     let l: &mut [u64] = &mut lengths;
-    setup::set_up(w, r, h, t, p, b, 16, 256);
+    let _ = setup::set_up(w, r, h, t, p, b, 16, 256);
     fill(out, w, r, h, p, b, field(line, 1))?;
     change(out, w, r, h, t, p, b, l, line)?;
     let ok = accepted(w, r, h, t, p, b, l);
@@ -169,7 +170,7 @@ pub fn shown_k<W: Write>(out: &mut W) -> Result<()> {
     let r: &mut [u64] = &mut records;
     let h: &mut [u64] = &mut heads;
     let b: &mut [u8] = &mut bytes;
-    setup::set_up(w, r, h, &times, &paths, b, 16, 256);
+    let _ = setup::set_up(w, r, h, &times, &paths, b, 16, 256);
     tree_k(w, r, h);
     bytes_k(b);
     say_tree(
@@ -179,6 +180,13 @@ pub fn shown_k<W: Write>(out: &mut W) -> Result<()> {
         b,
         word(w, 2) as usize,
     )?;
-    let ok = lawful::store_ok(w, r, h, &times, &paths, b);
+    let ok = lawful::store_ok(Slices {
+        words: w,
+        records: r,
+        heads: h,
+        times: &times,
+        paths: &paths,
+        bytes: b,
+    });
     say_case(out, 0, b"tree K", ok)
 }

@@ -85,7 +85,7 @@ fn edits<W: Write>(out: &mut W, s: &[u8]) -> io::Result<()> {
     let t: &mut [i64] = &mut times;
     let p: &mut [u8] = &mut paths;
     let b: &mut [u8] = &mut bytes;
-    setup::set_up(w, r, h, t, p, b, 40, 1024);
+    let _ = setup::set_up(w, r, h, t, p, b, 40, 1024);
     all(out, w, r, h, t, p, b, s)
 }
 

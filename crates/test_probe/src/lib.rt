@@ -10,6 +10,7 @@ ghost use Rattle.lawful_limits.specs.Settles.{Settles};
 ghost use Rattle.test_probe.specs.Numbers.{Answers, LastAt, NameAnswers, FollowAnswers, Behind, number_of, which_of, from_of, to_of};
 
 use lawful::store_ok;
+use layout::slices::Slices;
 use path::answer::{Formed, Place};
 use path::lengths::lengths_ok;
 use path_form::last::{last_name, last_place};
@@ -191,7 +192,15 @@ pub fn probe_store(
 ) -> u32
     ensures { Settles (eqb result 0) (Passes (lends words.now records.now heads.now times.now paths.now bytes.now)) × (result ≤ 1) }
 {
-    if store_ok(words, records, heads, times, paths, bytes) {
+    let lent = Slices {
+        words,
+        records,
+        heads,
+        times,
+        paths,
+        bytes,
+    };
+    if store_ok(lent) {
         return 0;
     }
     1

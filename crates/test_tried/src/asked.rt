@@ -6,6 +6,7 @@ ghost use Rattle.layout.specs.Lawful.{Lawful};
 ghost use Rattle.edit_room.specs.Extents.{Roomy};
 ghost use Rattle.test_tried.specs.Tried.{Whole, Fits};
 
+use layout::slices::Slices;
 use layout::{FILE_NUMBERS, MOST_AT, MOST_ENTRIES, PATHS_BYTES, ROOM_AT, WORD_COUNT};
 
 const MOST: usize = MOST_ENTRIES as usize;
@@ -64,7 +65,14 @@ pub fn ready(
     ) {
         return false;
     }
-    lawful::store_ok(words, records, heads, times, paths, bytes)
+    lawful::store_ok(Slices {
+        words,
+        records,
+        heads,
+        times,
+        paths,
+        bytes,
+    })
 }
 
 // Whether n more bytes are within the byte limit where `free` bytes go: by the bytes used, worked out from the tree.
