@@ -1,7 +1,6 @@
 -- Another mode or other times of a slot change its metadata alone: the word keeps its kind and its length, so every slot keeps its
 -- bytes.
 -- Assumes nothing.
-use mathlib.Core.Bool.{Bool, true, false}
 use mathlib.Core.List.{List, []}
 use mathlib.Core.Path.{◌≡◌, refl, ap, ◌∙◌}
 use Prim.Native.Nat.{ℕ, ◌+◌, ◌*◌, ◌%◌, ◌≤◌, ◌<◌}
@@ -11,7 +10,6 @@ use lib.ListN.{length, get_or, set, length-set}
 use lib.Seq.{get_or-set_same, get_or-set_other}
 use Rattle.text.specs.Utf8.{Bytes}
 use Rattle.model.specs.Tree.{Meta, given, Change, chmod, touch, touch_some, change_meta, change_bytes}
-use Rattle.model.specs.Calls.Performing.{given_if}
 use Rattle.layout.specs.Fields.{len_of, kind_of, mode_of, head_word}
 use Rattle.layout.specs.Slots.{contents}
 use Rattle.layout.specs.Store.{Store, meta_at, bytes_at}
@@ -19,7 +17,8 @@ use Rattle.layout.specs.Lawful.{Lawful}
 use Rattle.slots.proofs.Contents.{total_same, contents_same}
 use Rattle.edit_slot.specs.Changes.{Changes}
 use Rattle.slots.specs.Times.{times_set}
-use Rattle.edit_slot.specs.Times.{modified_set, set_if, some_set}
+use Rattle.edit_slot.specs.Times.{modified_set, in_model, set_if, some_set}
+use Rattle.std.specs.Prelude.{Option, Some, None}
 use Rattle.edit_slot.proofs.Altering.{slotted, altered-changes}
 use Rattle.edit_slot.proofs.Timing.{meta_by, with_accessed, with_changed, with_created, with_modified, meta_past, meta-accessed, meta-changed, meta-created, meta-modified}
 
@@ -141,37 +140,36 @@ module _ (st : Store) (l : Lawful st) (k : ℕ) (hk : k < length st.heads) where
   modified_past t i n = meta_past (get_or st.heads i 0) st.times k (4 * k + 3) i t (omega arith) (omega arith) n
 
   -- a time that is stored or not
-  if_length : (b : Bool) (ts : List ℤ) (i : ℕ) (v : ℤ) → length (set_if b ts i v) ≡ length ts
-  if_length true ts i v = length-set ts i v
-  if_length false ts i v = refl
+  if_length : (v : Option ℤ) (ts : List ℤ) (i : ℕ) → length (set_if v ts i) ≡ length ts
+  if_length (Some v) ts i = length-set ts i v
+  if_length None ts i = refl
 
-  if_past : (b : Bool) (h : ℕ) (ts : List ℤ) (i j : ℕ) (v : ℤ) → 4 * k ≤ i → i < 4 * k + 4 → (j ≡ k → ⊥) → meta_by h (set_if b ts i v) j ≡ meta_by h ts j
-  if_past true h ts i j v a b n = meta_past h ts k i j v a b n
-  if_past false h ts i j v a b n = refl
+  if_past : (v : Option ℤ) (h : ℕ) (ts : List ℤ) (i j : ℕ) → 4 * k ≤ i → i < 4 * k + 4 → (j ≡ k → ⊥) → meta_by h (set_if v ts i) j ≡ meta_by h ts j
+  if_past (Some v) h ts i j a b n = meta_past h ts k i j v a b n
+  if_past None h ts i j a b n = refl
 
-  if_accessed : (b : Bool) (h : ℕ) (ts : List ℤ) (v : ℤ) → 4 * k + 3 < length ts
-      → meta_by h (set_if b ts (4 * k) v) k ≡ with_accessed (given (given_if b v) (meta_by h ts k).accessed) (meta_by h ts k)
-  if_accessed true h ts v b = meta-accessed h ts k v b
-  if_accessed false h ts v b = refl
+  if_accessed : (v : Option ℤ) (h : ℕ) (ts : List ℤ) → 4 * k + 3 < length ts
+      → meta_by h (set_if v ts (4 * k)) k ≡ with_accessed (given (in_model v) (meta_by h ts k).accessed) (meta_by h ts k)
+  if_accessed (Some v) h ts b = meta-accessed h ts k v b
+  if_accessed None h ts b = refl
 
-  if_modified : (b : Bool) (h : ℕ) (ts : List ℤ) (v : ℤ) → 4 * k + 3 < length ts
-      → meta_by h (set_if b ts (4 * k + 3) v) k ≡ with_modified (given (given_if b v) (meta_by h ts k).modified) (meta_by h ts k)
-  if_modified true h ts v b = meta-modified h ts k v b
-  if_modified false h ts v b = refl
+  if_modified : (v : Option ℤ) (h : ℕ) (ts : List ℤ) → 4 * k + 3 < length ts
+      → meta_by h (set_if v ts (4 * k + 3)) k ≡ with_modified (given (in_model v) (meta_by h ts k).modified) (meta_by h ts k)
+  if_modified (Some v) h ts b = meta-modified h ts k v b
+  if_modified None h ts b = refl
 
-  pub some_changes : (b : Bool) (a : ℤ) (d : Bool) (t : ℤ)
-      → Changes (touch_some (given_if b a) (given_if d t)) st (slotted st st.heads (some_set st.times k b a d t) st.bytes) k
+  pub some_changes : (a t : Option ℤ) → Changes (touch_some (in_model a) (in_model t)) st (slotted st st.heads (some_set st.times k a t) st.bytes) k
   unfolding change_meta change_bytes
-  some_changes b a d t =
-      timed (touch_some (given_if b a) (given_if d t)) (some_set st.times k b a d t)
-      (if_length d t1 (4 * k + 3) t ∙ if_length b st.times (4 * k) a)
-      (λ i n. if_past d (get_or st.heads i 0) t1 (4 * k + 3) i t (omega arith) (omega arith) n ∙ if_past b (get_or st.heads i 0) st.times (4 * k) i a (omega arith) (omega arith) n)
-      (if_modified d h t1 t (omega (arith, low, if_length b st.times (4 * k) a))
-      ∙ ap (λ (m : Meta). with_modified (given (given_if d t) m.modified) m) (if_accessed b h st.times a low))
+  some_changes a t =
+      timed (touch_some (in_model a) (in_model t)) (some_set st.times k a t)
+      (if_length t t1 (4 * k + 3) ∙ if_length a st.times (4 * k))
+      (λ i n. if_past t (get_or st.heads i 0) t1 (4 * k + 3) i (omega arith) (omega arith) n ∙ if_past a (get_or st.heads i 0) st.times (4 * k) i (omega arith) (omega arith) n)
+      (if_modified t h t1 (omega (arith, low, if_length a st.times (4 * k)))
+      ∙ ap (λ (m : Meta). with_modified (given (in_model t) m.modified) m) (if_accessed a h st.times low))
       refl
     where
       h : ℕ
       h = get_or st.heads k 0
 
       t1 : List ℤ
-      t1 = set_if b st.times (4 * k) a
+      t1 = set_if a st.times (4 * k)

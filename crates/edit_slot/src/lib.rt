@@ -3,11 +3,10 @@
 ghost use Rattle.std.specs.Prelude.{◌≡◌, ◌+◌, ◌*◌, ◌<◌, length, get_or, set};
 ghost use Rattle.layout.specs.Store.{bytes_at};
 ghost use Rattle.layout.specs.Lent.{◌∘◌, ◌&◌, with_heads, with_times, with_bytes, on_heads, on_times, on_bytes, SomeLawful, OnLawful};
-ghost use Rattle.model.specs.Calls.Performing.{given_if};
 ghost use Rattle.model.specs.Tree.{write, resize, chmod, touch, touch_some};
 ghost use Rattle.slots.specs.Put.{fitted};
 ghost use Rattle.edit_slot.specs.Changes.{Changes, HasRoom, with_mode};
-ghost use Rattle.edit_slot.specs.Times.{set_if};
+ghost use Rattle.edit_slot.specs.Times.{set_if, in_model};
 
 use layout::MODE_UNIT;
 
@@ -17,7 +16,7 @@ fn put_mode(heads: &mut [u64], slot: usize, m: u32)
     ensures { heads.new ≡ set heads.old slot (with_mode m (get_or heads.old slot 0)) }
 {
     let h = heads[slot];
-    heads[slot] = m as u64 * MODE_UNIT + h % MODE_UNIT;
+    heads[slot] = u64::from(m) * MODE_UNIT + h % MODE_UNIT;
 }
 
 // The mode of a directory, a file or a link.
@@ -37,23 +36,23 @@ pub fn set_times(times: &mut [i64], slot: usize, a: i64, t: i64)
 }
 
 // A time that is stored only if it is given.
-fn put_if(times: &mut [i64], i: usize, ok: bool, t: i64)
+fn put_if(times: &mut [i64], i: usize, given: Option<i64>)
     requires { i < length times.old }
-    ensures { times.new ≡ set_if ok times.old i t }
+    ensures { times.new ≡ set_if given times.old i }
 {
-    if ok {
+    if let Some(t) = given {
         times[i] = t;
     }
 }
 
 // The times accessed and modified, each if it is given.
-pub fn set_some_times(times: &mut [i64], slot: usize, access: bool, a: i64, modify: bool, t: i64)
+pub fn set_some_times(times: &mut [i64], slot: usize, accessed: Option<i64>, modified: Option<i64>)
     requires { 4 * slot + 3 < length times.old }
     ensures { OnLawful (on_times times.old times.new) (λ st u. slot < length st.heads
-        → Changes (touch_some (given_if access a) (given_if modify t)) st u slot) }
+        → Changes (touch_some (in_model accessed) (in_model modified)) st u slot) }
 {
-    put_if(times, 4 * slot, access, a);
-    put_if(times, 4 * slot + 3, modify, t);
+    put_if(times, 4 * slot, accessed);
+    put_if(times, 4 * slot + 3, modified);
 }
 
 // Other bytes of a file, and the time modified.

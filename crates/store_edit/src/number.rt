@@ -3,11 +3,11 @@ ghost use Rattle.std.specs.Prelude.{◌≡◌, suc, ◌<◌, T, get_or};
 ghost use Rattle.model.specs.Prog.{close as close-it, change_held};
 ghost use Rattle.model.specs.Tree.{chmod, touch_some};
 ghost use Rattle.text.specs.Utf8.{Bytes};
-ghost use Rattle.model.specs.Calls.Performing.{given_if};
 ghost use Rattle.layout.specs.Numbers.{file_numbers, holder_at};
 ghost use Rattle.layout.specs.Lawful.{cell_ok};
 ghost use Rattle.layout.specs.Lent.{◌∘◌, with_words, with_records, with_heads, with_times, with_paths, with_bytes, still};
 ghost use Rattle.layout.specs.Lent.{◌&◌, on_words, on_heads, on_times, on_paths, on_bytes, On};
+ghost use Rattle.edit_slot.specs.Times.{in_model};
 ghost use Rattle.store_edit.specs.Turns.{SomeState, SomeSpot, NumberOpen, TurnsHeld, MayOpenOn, Opens, MayResize, Resizes};
 
 use ask_find::Spot;
@@ -64,16 +64,14 @@ pub fn touch_held(
     words: &[u64],
     times: &mut [i64],
     n: usize,
-    access: bool,
-    a: i64,
-    modify: bool,
-    t: i64,
+    accessed: Option<i64>,
+    modified: Option<i64>,
 )
     requires { SomeState (with_words words.now ∘ with_times times.old) (λ st s. NumberOpen n s) }
     ensures { On (still (with_words words.now) & on_times times.old times.new)
-        (TurnsHeld n (change_held n (touch_some (given_if access a) (given_if modify t)))) }
+        (TurnsHeld n (change_held n (touch_some (in_model accessed) (in_model modified)))) }
 {
-    edit_slot::set_some_times(times, held_slot(words, n), access, a, modify, t);
+    edit_slot::set_some_times(times, held_slot(words, n), accessed, modified);
 }
 
 // Its file is cut to so many bytes, or extended by zeros.

@@ -1,6 +1,6 @@
 // What stands at a spot is changed: its mode, its times, the bytes of a file.
 ghost use Rattle.model.specs.Prog.{change};
-ghost use Rattle.model.specs.Tree.{chmod as with_mode, touch as with-times};
+ghost use Rattle.model.specs.Tree.{chmod as chmod-to, touch as touch-to};
 ghost use Rattle.layout.specs.Lent.{◌∘◌, with_words, with_records, with_heads, with_times, with_bytes, still};
 ghost use Rattle.layout.specs.Lent.{◌&◌, on_heads, on_times, on_bytes, On};
 ghost use Rattle.store.specs.Shows.{SomeEntry};
@@ -13,7 +13,7 @@ use layout::{EXTENT_AT, slot_of};
 pub fn chmod(words: &[u64], records: &[u64], heads: &mut [u64], spot: Spot, m: u32)
     requires { SomeEntry (with_words words.now ∘ with_records records.now ∘ with_heads heads.old) spot }
     ensures { On (still (with_words words.now ∘ with_records records.now)
-        & on_heads heads.old heads.new) (TurnsAt spot (λ p. change p (with_mode m))) }
+        & on_heads heads.old heads.new) (TurnsAt spot (λ p. change p (chmod-to m))) }
 {
     let i = spot.at;
     let slot = slot_of(records[i]);
@@ -24,7 +24,7 @@ pub fn chmod(words: &[u64], records: &[u64], heads: &mut [u64], spot: Spot, m: u
 // The first time for accessed, changed and created, the second for modified.
 pub fn touch(records: &[u64], times: &mut [i64], spot: Spot, a: i64, t: i64)
     requires { SomeEntry (with_records records.now ∘ with_times times.old) spot }
-    ensures { On (still (with_records records.now) & on_times times.old times.new) (TurnsAt spot (λ p. change p (with-times a t))) }
+    ensures { On (still (with_records records.now) & on_times times.old times.new) (TurnsAt spot (λ p. change p (touch-to a t))) }
 {
     let i = spot.at;
     edit_slot::set_times(times, slot_of(records[i]), a, t);

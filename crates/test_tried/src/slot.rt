@@ -73,10 +73,8 @@ pub fn try_some_times(
     paths: &[u8],
     bytes: &[u8],
     i: usize,
-    access: bool,
-    a: i64,
-    modify: bool,
-    t: i64,
+    accessed: Option<i64>,
+    modified: Option<i64>,
 ) -> bool {
     if !ready(words, records, heads, times, paths, bytes) {
         return false;
@@ -86,7 +84,7 @@ pub fn try_some_times(
     if slots <= slot {
         return false;
     }
-    edit_slot::set_some_times(times, slot, access, a, modify, t);
+    edit_slot::set_some_times(times, slot, accessed, modified);
     true
 }
 

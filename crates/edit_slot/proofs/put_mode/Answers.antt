@@ -1,12 +1,9 @@
 -- `put_mode` meets its contract: the stored number is the word with that mode.
 -- Assumes nothing.
 use mathlib.Core.Path.{ap}
-use Prim.Native.Nat.{ℕ}
 use lib.ListN.{get_or, set}
 use Rattle.edit_slot.proofs.Metadata.{word-stored}
 use Rattle.edit_slot.proofs.put_mode.Goals as goal
 
 pub returns : goal.returns
-returns c =
-    let a = c.args in
-    ap (λ (w : ℕ). set a.heads.now a.slot w) (word-stored (get_or a.heads.now a.slot 0) a.m)
+returns c = let a = c.args in rw c.from.ensures (ap (set a.heads.now a.slot) (word-stored (get_or a.heads.now a.slot 0) a.m))

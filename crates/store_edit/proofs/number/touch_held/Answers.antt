@@ -3,15 +3,13 @@
 use mathlib.Core.List.{[], ◌∷◌}
 use mathlib.Core.Path.{refl}
 use native.Mathlib.Omega.{arith}
-use mir.Syntax.{w64}
-use mir.ValLaws.{to_z-of_z}
 use Rattle.model.specs.Tree.{touch_some}
 use Rattle.model.specs.Prog.{change_held}
-use Rattle.model.specs.Calls.Performing.{given_if}
+use Rattle.edit_slot.specs.Times.{in_model}
 use Rattle.layout.specs.Lent.{◌∘◌, with_words, with_times}
 use Rattle.edit_room.specs.Extents.{trim}
 use Rattle.store_edit.proofs.Carrying.{shows_same}
-use Rattle.store_edit.proofs.Entering.{open_at, same_change}
+use Rattle.store_edit.proofs.Entering.{open_at}
 use Rattle.store_edit.proofs.number.touch_held.Goals as goal
 
 pub set_some_times-requires : goal.set_some_times-requires
@@ -23,6 +21,5 @@ returns c =
     let g = c.args in
     let u = (with_words g.words.now ∘ with_times g.times.now) st in
     let k = c.held_slot.ensures in
-    shows_same (change_held g.n (touch_some (given_if g.access g.a) (given_if g.modify g.t)) ∷ []) u _ s h
-    ((same_change (λ z. touch_some (given_if g.access (to_z-of_z w64 g.a c.ranges.a z)) (given_if g.modify (to_z-of_z w64 g.t c.ranges.t z)))
-    (c.set_some_times.ensures (trim u) h.roomy.lawful (omega (arith, k.1, (open_at u s h g.n o).1.low)))).by_number g.n k.0 k.1) refl refl
+    let x = c.set_some_times.ensures (trim u) h.roomy.lawful (omega (arith, k.1, (open_at u s h g.n o).1.low)) in
+    shows_same (change_held g.n (touch_some (in_model g.accessed) (in_model g.modified)) ∷ []) u _ s h (x.by_number g.n k.0 k.1) refl refl
