@@ -1,6 +1,7 @@
 -- An operation by file number that is one edit and answers nothing: the store shows the edited state, so that it is done.
 -- Assumes nothing.
-use Rattle.std.proofs.Common.{◌≡◌, ℕ, ◌/◌, ◌%◌, eqb, refl, subst, arith}
+use Rattle.std.proofs.Common.{◌≡◌, ℕ, ◌/◌, ◌%◌, Bool, true, false, eqb, refl, ap, ◌∙◌, subst, arith, Option}
+use Rattle.std.specs.Bool.{then_some}
 use Rattle.model.specs.Tree.{Time, chmod, touch_some}
 use Rattle.model.specs.Prog.{Edit, close, change_held, apply, Prog, ◌>>=◌, ◌>>◌, done, run}
 use Rattle.model.specs.Operations.Numbers.{close_on, set_mode_on, set_times_on}
@@ -9,6 +10,7 @@ use Rattle.model.specs.Calls.States.{State, world_of, edited}
 use Rattle.model.specs.Calls.Performing.{bit, given_if}
 use Rattle.model.specs.Buffers.{Outputs, row_numbers}
 use Rattle.layout.specs.Store.{Store}
+use Rattle.edit_slot.specs.Times.{in_model}
 use Rattle.store.specs.Shows.{Shows}
 use Rattle.op.specs.Doing.{Does}
 use Rattle.op.specs.Lending.{in_nothing}
@@ -19,6 +21,11 @@ pub does-changed : (p : Prog Reply) (s : State) (u : Store) (e : Edit) → run p
 unfolding row_numbers
 does-changed p s u e r h = does-done p s u (plain_reply 0) (apply e (world_of s)) r h in_nothing in_nothing refl
 
+-- a time that is given by a flag
+given_then : (b : Bool) (t : Time) → in_model (then_some b t) ≡ given_if b t
+given_then true t = refl
+given_then false t = refl
+
 module _ (s : State) (u : Store) (n : ℕ) where
   pub does-closed : Shows u (edited (close n) s) → Does (close_on n) s u in_nothing in_nothing 0
   unfolding run ◌>>=◌ ◌>>◌ close_on
@@ -28,15 +35,16 @@ module _ (s : State) (u : Store) (n : ℕ) where
   unfolding run ◌>>=◌ ◌>>◌ set_mode_on
   does-mode m h = does-changed (set_mode_on n m) s u (change_held n (chmod m)) refl h
 
-  -- a flag that is tested by its last bit is the flag of value 1, and a time that was passed on is the time that was given
-  pub does-times : (f : ℕ) {x y a m : Time} → x ≡ a → y ≡ m → Shows u (edited (change_held n (touch_some (given_if (eqb (f % 2) 1) x) (given_if (bit f 2) y))) s)
+  -- a flag that is tested by its last bit is the flag of value 1
+  pub does-times : (f : ℕ) (a m : Time) {x y : Option Time} → x ≡ then_some (eqb (f % 2) 1) a → y ≡ then_some (bit f 2) m → Shows u (edited (change_held n (touch_some (in_model x) (in_model y))) s)
       → Does (set_times_on n (given_if (bit f 1) a) (given_if (bit f 2) m)) s u in_nothing in_nothing 0
   unfolding run ◌>>=◌ ◌>>◌ set_times_on
-  does-times f {a = a} {m = m} x y h =
-      let z : f % 2 ≡ f / 1 % 2 = omega arith in
-      let e : edited (change_held n (touch_some (given_if (eqb (f % 2) 1) _) (given_if (bit f 2) _))) s ≡ edited (change_held n (touch_some (given_if (bit f 1) a) (given_if (bit f 2) m))) s =
-      λ i. edited (change_held n (touch_some (given_if (eqb (z i) 1) (x i)) (given_if (bit f 2) (y i)))) s in
-      does-changed (set_times_on n (given_if (bit f 1) a) (given_if (bit f 2) m)) s u (change_held n (touch_some (given_if (bit f 1) a) (given_if (bit f 2) m))) refl (subst (Shows u) e h)
+  does-times f a m x y h =
+      let z : eqb (f % 2) 1 ≡ bit f 1 = ap (λ (k : ℕ). eqb k 1) (let w : f % 2 ≡ f / 1 % 2 = omega arith in w) in
+      let first : in_model _ ≡ given_if (bit f 1) a = ap in_model (x ∙ ap (λ (b : Bool). then_some b a) z) ∙ given_then (bit f 1) a in
+      let second : in_model _ ≡ given_if (bit f 2) m = ap in_model y ∙ given_then (bit f 2) m in
+      does-changed (set_times_on n (given_if (bit f 1) a) (given_if (bit f 2) m)) s u (change_held n (touch_some (given_if (bit f 1) a) (given_if (bit f 2) m))) refl
+      (subst (Shows u) (λ i. edited (change_held n (touch_some (first i) (second i))) s) h)
 
 -- times that are the same, however they were passed
 pub same_times : (n flags : ℕ) {a b m k : Time} {s : State} {u : Store} {o after : Outputs} {r : ℕ} → a ≡ b → m ≡ k

@@ -66,8 +66,8 @@ pub fn set_times_on(
     ensures { OpenAnswered (still (with_words words.now) & on_times times.old times.new) n
         (λ _. set_times_on n (given_if (bit flags 1) accessed) (given_if (bit flags 2) modified)) in_nothing in_nothing result }
 {
-    let access = flags % 2 == 1;
-    let modify = flags / 2 % 2 == 1;
-    store_edit::number::touch_held(words, times, n, access, accessed, modify, modified);
+    let accessed = (flags % 2 == 1).then_some(accessed);
+    let modified = (flags / 2 % 2 == 1).then_some(modified);
+    store_edit::number::touch_held(words, times, n, accessed, modified);
     0
 }
