@@ -4,5 +4,5 @@ use Rattle.std.specs.Prelude.{List, ℕ, drop}
 use Rattle.std.proofs.Math.Seq.{paste}
 
 -- s with the k elements from index `from` copied, as they were, over those from index `to`
-unfoldable pub moved : List ℕ → ℕ → ℕ → ℕ → List ℕ
+unfoldable pub moved : {A : Type 0} → List A → ℕ → ℕ → ℕ → List A
 moved s from to k = paste s to (drop from s) k

@@ -1,7 +1,7 @@
 -- The steps of a move, put together: the entry's new name, then the rotation of its records with another depth.
 -- Assumes nothing.
 use mathlib.Core.Bool.{Bool, true}
-use mathlib.Core.List.{List, [], ◌∷◌, ◌++◌, append_assoc}
+use mathlib.Core.List.{List, [], ◌∷◌, ◌++◌, append_assoc, map}
 use mathlib.Core.Path.{◌≡◌, refl, sym, ap, ◌∙◌, subst}
 use Prim.Native.Nat.{ℕ, zero, suc, ◌+◌, ◌-◌, ◌≤◌, ◌<◌}
 use native.Mathlib.Numerals.{add-one}
@@ -9,7 +9,7 @@ use native.Mathlib.Decide.{ℕ_discrete}
 use native.Mathlib.Omega.{arith}
 use lib.Dec.{T, eqb}
 use lib.IntN.{ℤ}
-use lib.ListN.{length, length-append, length-take, length-drop, take, drop, get_or}
+use lib.ListN.{length, length-map, length-append, length-take, length-drop, take, drop, get_or}
 use lib.Seq.{length-take-le, take-append_seam, drop-append_seam, drop-append-add, drop-cons, get_or-take}
 use Rattle.text.specs.Utf8.{Bytes}
 use Rattle.path.specs.Path.{Name}
@@ -26,10 +26,9 @@ use Rattle.layout.proofs.Walks.{SlotsIn}
 use Rattle.path.proofs.Laws.{and_left, and_right}
 use Rattle.blocks.specs.Turn.{turned}
 use Rattle.blocks.proofs.Turns.{turned-parts}
-use Rattle.records.specs.Blocks.{each, raise, raised, move_to, Liftable, Moved}
+use Rattle.records.specs.Blocks.{raise, raised, move_to, Liftable, Moved}
 use Rattle.layout.proofs.Named.{length-rows, rows_drop}
 use Rattle.records.proofs.Entries.{contents-kept, total-step, total-take}
-use Rattle.records.proofs.Lifts.{length_each}
 use Rattle.records.proofs.Swings.{move_down, move_up}
 use Rattle.layout.specs.Parts.{path_after, Deeper, deepen}
 use Rattle.layout.proofs.Edited.Inserting.{root_is}
@@ -277,23 +276,22 @@ module _ (ws rs hs : List ℕ) (ts : List ℤ) (ps bs : Bytes) (i e p depth : �
       abbrev X : List Row
       X = new_row m.q y m.row.slot ∷ deepen m.row.depth (length (m.q ++ (y ∷ []))) m.x
 
-      raise-is : (u d : ℕ) (r : List Row) → each (raise u d) r ≡ deepen d u r
-      unfolding each deepen
+      raise-is : (u d : ℕ) (r : List Row) → map (raise u d) r ≡ deepen d u r
+      unfolding deepen
       raise-is u d [] = refl
       raise-is u d (s ∷ r) = ap (◌∷◌ (raise u d s)) (raise-is u d r)
 
       new-depth : depth ≡ length (m.q ++ (y ∷ []))
       new-depth = m.deep ∙ (omega arith ∙ sym (length-append m.q (y ∷ [])))
 
-      X-is : each (raise depth m.row.depth) (row₂ ∷ m.x) ≡ X
-      unfolding each
+      X-is : map (raise depth m.row.depth) (row₂ ∷ m.x) ≡ X
       X-is =
           let f : m.row.depth + depth - m.row.depth ≡ suc (length m.q) = omega (arith, m.deep) in
-          ap (λ (k : ℕ). record { depth = k; name = y; slot = m.row.slot } ∷ each (raise depth m.row.depth) m.x) f
+          ap (λ (k : ℕ). record { depth = k; name = y; slot = m.row.slot } ∷ map (raise depth m.row.depth) m.x) f
           ∙ ap (◌∷◌ (new_row m.q y m.row.slot)) (raise-is depth m.row.depth m.x ∙ ap (λ (k : ℕ). deepen m.row.depth k m.x) new-depth)
 
       X-long : i + length X ≡ e
-      X-long = omega (arith, ap length (sym X-is), length_each (raise depth m.row.depth) (row₂ ∷ m.x), m.to)
+      X-long = omega (arith, ap length (sym X-is), length-map (row₂ ∷ m.x) (raise depth m.row.depth), m.to)
 
       -- the rows before the rotation
       lifted : raised (rows (take n rs₁) bs₁) i e depth m.row.depth ≡ A ++ (X ++ m.b)
@@ -317,7 +315,7 @@ module _ (ws rs hs : List ℕ) (ts : List ℤ) (ps bs : Bytes) (i e p depth : �
           last : drop e (A ++ ((row₂ ∷ m.x) ++ m.b)) ≡ m.b
           last = ap (drop e) two ∙ (ap (λ (k : ℕ). drop k ((A ++ (row₂ ∷ m.x)) ++ m.b)) (sym e-long) ∙ drop-append_seam (A ++ (row₂ ∷ m.x)) m.b)
 
-          parts_at : raised (A ++ ((row₂ ∷ m.x) ++ m.b)) i e depth m.row.depth ≡ A ++ (each (raise depth m.row.depth) (row₂ ∷ m.x) ++ m.b)
+          parts_at : raised (A ++ ((row₂ ∷ m.x) ++ m.b)) i e depth m.row.depth ≡ A ++ (map (raise depth m.row.depth) (row₂ ∷ m.x) ++ m.b)
           parts_at = rw (first, mid, last) refl
 
       -- the rows after it

@@ -4,10 +4,13 @@
 use mathlib.Core.Path.{◌≡◌, refl, sym, ap, ◌∙◌}
 use mathlib.Core.List.{List, [], ◌∷◌, ◌++◌}
 use Prim.Native.Nat.{ℕ, suc, ◌+◌, ◌-◌, ◌≤◌, ◌<◌}
+use native.Mathlib.Numerals.{add-one}
 use native.Mathlib.Omega.{arith}
 use lib.ListN.{length, take, drop, get_or, length-drop}
 use lib.Seq.{length-take-le, take_at, take-append-le, drop-append-le, take-take, take-suc, drop-drop, length-slice}
-use Rattle.blocks.proofs.Cuts.{up_to, none_between, drop-take, part_is}
+use Rattle.std.proofs.lemmas.List.{drop-take}
+use Rattle.std.proofs.lemmas.Slice.{between_is}
+use Rattle.blocks.proofs.Cuts.{up_to}
 use Rattle.layout.specs.Fields.{depth_of, nlen_of, slot_of}
 use Rattle.layout.specs.Rows.{Row, rows, name_total}
 use Rattle.layout.specs.Slots.{total, split, contents}
@@ -22,11 +25,6 @@ total_up ws a m h = ap name_total (sym (up_to ws a m h)) ∙ total-append (take 
 pub total-take : (ws : List ℕ) (k : ℕ) → name_total (take k ws) ≤ name_total ws
 total-take ws k = omega (arith, total-split ws k)
 
--- of none
-pub total_none : (ws : List ℕ) (a : ℕ) → 0 ≡ name_total (drop a (take a ws))
-unfolding name_total
-total_none ws a = sym (ap name_total (none_between ws a))
-
 -- with one more
 pub total-step : (ws : List ℕ) (a j : ℕ) → a ≤ j → j < length ws → name_total (drop a (take (suc j) ws)) ≡ name_total (drop a (take j ws)) + nlen_of (get_or ws j 0)
 unfolding name_total
@@ -34,6 +32,9 @@ total-step ws a j h l =
     let more : drop a (take (suc j) ws) ≡ drop a (take j ws) ++ (get_or ws j 0 ∷ []) =
     ap (drop a) (take-suc ws j 0 l) ∙ drop-append-le a (take j ws) (get_or ws j 0 ∷ []) (omega (arith, length-take-le j ws (omega arith))) in
     ap name_total more ∙ total-append (drop a (take j ws)) (get_or ws j 0 ∷ []) ∙ omega arith
+
+pub total_more : (ws : List ℕ) (j w : ℕ) → j < length ws → w ≡ get_or ws j 0 → name_total (take (j + 1) ws) ≡ name_total (take j ws) + nlen_of w
+total_more ws j w l e = rw (e, add-one j) (total-step ws 0 j (omega arith) l)
 
 -- ---- the entries
 
@@ -82,7 +83,7 @@ rows-tail ws bs y k o u e f h =
     let s : name_total (take k ws) + name_total Z ≡ name_total ws = total-split ws k in
     let n : u - o ≡ name_total Z = omega arith in
     rows_more Z (drop o (take u bs)) y (length-slice o u bs h ∙ n)
-    ∙ ap (rows Z) (sym (part_is bs o u (omega arith)) ∙ ap (λ (m : ℕ). take m (drop o bs)) n)
+    ∙ ap (rows Z) (sym (between_is bs o u) ∙ ap (λ (m : ℕ). take m (drop o bs)) n)
     ∙ rows_short Z (drop o bs)
     ∙ ap (λ (m : ℕ). rows Z (drop m bs)) e
     ∙ rows_drop ws bs k

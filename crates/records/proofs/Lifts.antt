@@ -1,58 +1,37 @@
--- A part of a list changed element by element: what the loop has done up to j is the change from a to j, and one more turn adds the
--- j-th. The depth of a word changes alone: it stands in the low bits. Assumes nothing.
-use mathlib.Core.Path.{◌≡◌, refl, sym, ap, ◌∙◌}
-use mathlib.Core.List.{List, [], ◌∷◌, ◌++◌, append_assoc}
+-- A part of a list changed element by element. The depth of a word changes alone: it stands in the low bits. Assumes nothing.
+use mathlib.Core.Path.{◌≡◌, ap, ◌∙◌}
+use mathlib.Core.List.{List, ◌++◌, map, append-nil}
 use Prim.Native.Nat.{ℕ, suc, ◌+◌, ◌-◌, ◌^◌, ◌≤◌, ◌<◌}
 use native.Mathlib.Omega.{arith}
-use lib.ListN.{length, take, drop, get_or, set, length-append, take-append-drop}
-use lib.Seq.{length-take-le, take-suc, drop-cons, drop-append-le, set_at, get_or_at, length-slice}
-use Rattle.blocks.proofs.Cuts.{none_between}
+use lib.ListN.{length, take, drop, get_or, length-map, length-take}
+use lib.Seq.{take_all, length-take-le, drop-drop, drop-cons, get_or-take, get_or-drop, get_or_at}
+use Rattle.std.proofs.lemmas.List.{drop_all}
+use Rattle.std.proofs.lemmas.Slice.{between_is}
 use Rattle.layout.specs.Fields.{depth_of, nlen_of, slot_of}
-use Rattle.records.specs.Blocks.{each, changed, lift, Liftable}
+use Rattle.records.specs.Blocks.{changed, lift, Liftable, Liftables}
 
-module _ {A : Type 0} (f : A → A) where
-  pub each_append : (a b : List A) → each f (a ++ b) ≡ each f a ++ each f b
-  unfolding each
-  each_append [] b = refl
-  each_append (x ∷ a) b = ap (λ (l : List A). f x ∷ l) (each_append a b)
+-- each of the part from a to b is changed
+pub change-part : {A : Type 0} (f : A → A) (s t : List A) (a b n : ℕ) → a ≤ b → length (take (b - a) (drop a s)) ≤ n
+    → t ≡ map f (take n (take (b - a) (drop a s))) ++ drop n (take (b - a) (drop a s)) → take a s ++ (t ++ drop (b - a) (drop a s)) ≡ changed f s a b
+change-part {A = A} f s t a b n h l e =
+    let p : List A = take (b - a) (drop a s) in
+    let to : a + (b - a) ≡ b = omega arith in
+    let all : t ≡ map f (drop a (take b s)) =
+    e ∙ (λ i. map f (take_all n p l i) ++ drop_all n p l i) ∙ append-nil (map f p) ∙ ap (map f) (between_is s a b) in
+    λ i. take a s ++ (all i ++ (drop-drop (b - a) a s ∙ ap (λ (j : ℕ). drop j s) to) i)
 
-  pub length_each : (a : List A) → length (each f a) ≡ length a
-  unfolding each
-  length_each [] = refl
-  length_each (x ∷ a) = ap suc (length_each a)
-
-module _ (f : ℕ → ℕ) where
-  pub change_none : (s : List ℕ) (a : ℕ) → s ≡ changed f s a a
-  unfolding each
-  change_none s a = sym (ap (λ (l : List ℕ). take a s ++ (each f l ++ drop a s)) (none_between s a) ∙ take-append-drop a s)
-
-  module _ (s₀ s : List ℕ) (a j : ℕ) (h : a ≤ j) (l : j < length s₀) (e : s ≡ changed f s₀ a j) where
-    front : length (take a s₀ ++ each f (drop a (take j s₀))) ≡ j
-    front =
-        length-append (take a s₀) (each f (drop a (take j s₀)))
-        ∙ omega (arith, length-take-le a s₀ (omega arith), length_each f (drop a (take j s₀)), length-slice a j s₀ (omega arith))
-
-    shape : s ≡ (take a s₀ ++ each f (drop a (take j s₀))) ++ (get_or s₀ j 0 ∷ drop (suc j) s₀)
-    shape =
-        e ∙ sym (append_assoc (take a s₀) (each f (drop a (take j s₀))) (drop j s₀)) ∙ ap (λ (r : List ℕ). (take a s₀ ++ each f (drop a (take j s₀))) ++ r) (drop-cons s₀ j 0 l)
-
-    pub change-read : get_or s j 0 ≡ get_or s₀ j 0
-    change-read =
-        ap (λ (r : List ℕ). get_or r j 0) shape ∙ get_or_at (take a s₀ ++ each f (drop a (take j s₀))) (get_or s₀ j 0) (drop (suc j) s₀) 0 j front
-
-    pub change-turn : set s j (f (get_or s j 0)) ≡ changed f s₀ a (suc j)
-    unfolding each
-    change-turn =
-        let v : ℕ = f (get_or s₀ j 0) in
-        let F : List ℕ = each f (drop a (take j s₀)) in
-        let more : drop a (take (suc j) s₀) ≡ drop a (take j s₀) ++ (get_or s₀ j 0 ∷ []) =
-        ap (drop a) (take-suc s₀ j 0 l) ∙ drop-append-le a (take j s₀) (get_or s₀ j 0 ∷ []) (omega (arith, length-take-le j s₀ (omega arith))) in
-        let fm : each f (drop a (take (suc j) s₀)) ≡ F ++ (v ∷ []) = ap (each f) more ∙ each_append f (drop a (take j s₀)) (get_or s₀ j 0 ∷ []) in
-        (λ i. set (shape i) j (f (change-read i)))
-        ∙ set_at (take a s₀ ++ F) (get_or s₀ j 0) (drop (suc j) s₀) v j front
-        ∙ append_assoc (take a s₀) F (v ∷ drop (suc j) s₀)
-        ∙ ap (λ (r : List ℕ). take a s₀ ++ r) (sym (append_assoc F (v ∷ []) (drop (suc j) s₀)))
-        ∙ ap (λ (r : List ℕ). take a s₀ ++ (r ++ drop (suc j) s₀)) (sym fm)
+-- the word that is read next is still as it was, so its depth may change
+pub next-liftable : (f : ℕ → ℕ) (ws t : List ℕ) (a b j u d : ℕ) → j < length (take (b - a) (drop a ws))
+    → t ≡ map f (take j (take (b - a) (drop a ws))) ++ drop j (take (b - a) (drop a ws)) → Liftables ws a b u d → Liftable (get_or t j 0) u d
+next-liftable f ws t a b j u d l e h =
+    let p : List ℕ = take (b - a) (drop a ws) in
+    let within : j < b - a = omega (arith, l, length-take (b - a) (drop a ws)) in
+    let read : get_or t j 0 ≡ get_or ws (a + j) 0 =
+    ap (λ (r : List ℕ). get_or r j 0) (e ∙ ap (λ (r : List ℕ). map f (take j p) ++ r) (drop-cons p j 0 l))
+    ∙ get_or_at (map f (take j p)) (get_or p j 0) (drop (suc j) p) 0 j (length-map (take j p) f ∙ length-take-le j p (omega arith))
+    ∙ get_or-take (b - a) (drop a ws) j 0 within
+    ∙ get_or-drop a ws j 0 in
+    rw read (h (a + j) (omega arith) (omega arith))
 
 -- the fields of a word whose depth changes
 module _ (w u d : ℕ) (l : Liftable w u d) where

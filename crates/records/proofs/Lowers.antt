@@ -1,7 +1,7 @@
 -- An entry put one deeper with all below it, and another in its place: its word gets another slot, the words below it another depth, and
 -- its own word and new name stand behind the first.
 -- Assumes nothing.
-use mathlib.Core.List.{List, [], ◌∷◌, ◌++◌, append_assoc}
+use mathlib.Core.List.{List, [], ◌∷◌, ◌++◌, append_assoc, map}
 use mathlib.Core.Path.{◌≡◌, refl, sym, ap, ◌∙◌}
 use Prim.Native.Nat.{ℕ, zero, suc, ◌+◌, ◌-◌, ◌≤◌, ◌<◌}
 use native.Mathlib.Omega.{arith}
@@ -10,7 +10,7 @@ use lib.Seq.{length-take-le, take-length, take_at, drop_at, get_or-take, get_or-
 use Rattle.layout.specs.Fields.{depth_of, nlen_of, slot_of}
 use Rattle.layout.specs.Rows.{Row, rows, name_total}
 use Rattle.layout.specs.Parts.{deepen}
-use Rattle.records.specs.Blocks.{each, changed, lift, raise, raised, row_of, Liftables, Opened, Lowered}
+use Rattle.records.specs.Blocks.{changed, lift, raise, raised, row_of, Liftables, Opened, Lowered}
 use Rattle.records.proofs.Swings.{length-changed, rows-lifted, first, size₁, total₁}
 
 -- all but the first
@@ -69,21 +69,21 @@ total-put (v ∷ ws) zero w n = ap (λ (k : ℕ). k + name_total ws) n
 total-put (v ∷ ws) (suc i) w n = ap (λ (k : ℕ). nlen_of v + k) (total-put ws i w n)
 
 -- by one more
-each_deepen : (d : ℕ) (X : List Row) → each (raise 1 0) X ≡ deepen d (suc d) X
-unfolding each deepen
+each_deepen : (d : ℕ) (X : List Row) → map (raise 1 0) X ≡ deepen d (suc d) X
+unfolding deepen
 each_deepen d [] = refl
 each_deepen d (r ∷ X) =
     let e : r.depth + 1 - 0 ≡ r.depth + suc d - d = omega arith in
     λ i. record { depth = e i; name = r.name; slot = r.slot } ∷ each_deepen d X i
 
 -- a part changed
-changed-part : (f : Row → Row) (P X Z : List Row) (a b : ℕ) → length P ≡ a → a + length X ≡ b → changed f (P ++ (X ++ Z)) a b ≡ P ++ (each f X ++ Z)
+changed-part : (f : Row → Row) (P X Z : List Row) (a b : ℕ) → length P ≡ a → a + length X ≡ b → changed f (P ++ (X ++ Z)) a b ≡ P ++ (map f X ++ Z)
 changed-part f P X Z a b e g =
     let j : length (P ++ X) ≡ b = length-append P X ∙ omega (arith, e, g) in
     let k : P ++ (X ++ Z) ≡ (P ++ X) ++ Z = sym (append_assoc P X Z) in
     let u : take b (P ++ (X ++ Z)) ≡ P ++ X = ap (take b) k ∙ take_at (P ++ X) Z b j in
     let v : drop b (P ++ (X ++ Z)) ≡ Z = ap (drop b) k ∙ drop_at (P ++ X) Z b j in
-    λ i. take_at P (X ++ Z) a e i ++ (each f ((ap (drop a) u ∙ drop_at P X a e) i) ++ v i)
+    λ i. take_at P (X ++ Z) a e i ++ (map f ((ap (drop a) u ∙ drop_at P X a e) i) ++ v i)
 
 module _ (ws bs : List ℕ) (count i e s : ℕ) (x : List ℕ) (h₁ : i < e) (h₂ : e ≤ count) (h₃ : count < length ws)
     (w₁ w₂ : ℕ) (d₁ : depth_of w₁ ≡ depth_of (get_or ws i 0)) (n₁ : nlen_of w₁ ≡ nlen_of (get_or ws i 0)) (s₁ : slot_of w₁ ≡ s)
@@ -155,7 +155,7 @@ module _ (ws bs : List ℕ) (count i e s : ℕ) (x : List ℕ) (h₁ : i < e) (h
           ap (λ (l : List ℕ). rows l bs) (cut-set ∙ ap (λ (j : ℕ). set (take count ws) j w₁) (sym g)) ∙ (put.rows ∙ sym (append_assoc A (r₁ ∷ []) (X ++ C)))
 
       abbrev below : List Row
-      below = each (raise 1 0) X ++ C
+      below = map (raise 1 0) X ++ C
 
       then-rows : rows (take count ws₂) bs ≡ Q ++ below
       then-rows = raised-rows ∙ (ap (λ (l : List Row). raised l (i + 1) e 1 0) first_rows ∙ changed-part (raise 1 0) Q X C (i + 1) e Q-long (omega (arith, k)))

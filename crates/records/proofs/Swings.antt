@@ -2,21 +2,22 @@
 -- names likewise, the entries of the parts are. What stands behind the first count stays. Assumes nothing.
 use mathlib.Core.Path.{◌≡◌, refl, sym, ap, ◌∙◌}
 use mathlib.Core.Bool.{Bool, cond}
-use mathlib.Core.List.{List, [], ◌∷◌, ◌++◌, append_assoc}
+use mathlib.Core.List.{List, [], ◌∷◌, ◌++◌, append_assoc, map}
 use Prim.Native.Nat.{ℕ, suc, ◌+◌, ◌-◌, ◌≤◌, ◌<◌}
 use native.Mathlib.Omega.{arith}
-use lib.ListN.{length, take, drop, get_or, length-append, take-append-drop}
+use lib.ListN.{length, length-map, take, drop, get_or, length-append, take-append-drop}
 use lib.Seq.{length-take-le, take_at, drop_at, take-append-le, drop-append-le, take-take, get_or-take, get_or-drop, length-slice}
 use borrow.Author.Tests.{le-leb, lt-leb}
 use Rattle.blocks.specs.Turn.{turned}
 use Rattle.blocks.proofs.Turns.{turned-parts, turned-append}
-use Rattle.blocks.proofs.Cuts.{thirds, quarter, part_is}
+use Rattle.std.proofs.lemmas.Slice.{between_is}
+use Rattle.blocks.proofs.Cuts.{thirds, quarter}
 use Rattle.layout.specs.Fields.{depth_of, nlen_of, slot_of}
 use Rattle.layout.specs.Rows.{Row, rows, name_total}
-use Rattle.records.specs.Blocks.{each, changed, lift, raise, raised, move_to, Liftable, Moved}
+use Rattle.records.specs.Blocks.{changed, lift, raise, raised, move_to, Liftable, Moved}
 use Rattle.layout.proofs.Named.{total-append, total-split, length-rows, rows_take, rows_drop}
 use Rattle.records.proofs.Entries.{total_up, total-take, rows_short, rows-cat, rows-around, drop-later}
-use Rattle.records.proofs.Lifts.{length_each, depth-lift, nlen-lift, slot-lift}
+use Rattle.records.proofs.Lifts.{depth-lift, nlen-lift, slot-lift}
 
 -- ---- entries raised
 
@@ -25,8 +26,8 @@ abbrev Ready : ℕ → ℕ → List ℕ → Type 0
 Ready u d ws = (j : ℕ) → j < length ws → Liftable (get_or ws j 0) u d
 
 module _ (u d : ℕ) where
-  rows_each : (ws bs : List ℕ) → Ready u d ws → rows (each (lift u d) ws) bs ≡ each (raise u d) (rows ws bs)
-  unfolding rows each
+  rows_each : (ws bs : List ℕ) → Ready u d ws → rows (map (lift u d) ws) bs ≡ map (raise u d) (rows ws bs)
+  unfolding rows
   rows_each [] bs h = refl
   rows_each (w ∷ ws) bs h =
       let l : Liftable w u d = h 0 (omega arith) in
@@ -34,11 +35,11 @@ module _ (u d : ℕ) where
       let n : nlen_of (lift u d w) ≡ nlen_of w = nlen-lift w u d l in
       let k = slot-lift w u d l in
       let f : Row = record { depth = depth_of w + u - d; name = take (nlen_of w) bs; slot = slot_of w } in
-      (λ i. record { depth = t i; name = take (n i) bs; slot = k i } ∷ rows (each (lift u d) ws) (drop (n i) bs))
+      (λ i. record { depth = t i; name = take (n i) bs; slot = k i } ∷ rows (map (lift u d) ws) (drop (n i) bs))
       ∙ ap (λ (r : List Row). f ∷ r) (rows_each ws (drop (nlen_of w) bs) (λ j x. h (suc j) (omega arith)))
 
-  total_each : (ws : List ℕ) → Ready u d ws → name_total (each (lift u d) ws) ≡ name_total ws
-  unfolding name_total each
+  total_each : (ws : List ℕ) → Ready u d ws → name_total (map (lift u d) ws) ≡ name_total ws
+  unfolding name_total
   total_each [] h = refl
   total_each (w ∷ ws) h =
       let n = nlen-lift w u d (h 0 (omega arith)) in
@@ -55,8 +56,8 @@ module _ (u d : ℕ) where
     pub total-lifted : name_total (changed (lift u d) ws a b) ≡ name_total ws
     total-lifted =
         let X : List ℕ = drop a (take b ws) in
-        total-append (take a ws) (each (lift u d) X ++ drop b ws)
-        ∙ omega (arith, total-append (each (lift u d) X) (drop b ws), total_each X part-ready, total_up ws a b h₁, total-split ws b)
+        total-append (take a ws) (map (lift u d) X ++ drop b ws)
+        ∙ omega (arith, total-append (map (lift u d) X) (drop b ws), total_each X part-ready, total_up ws a b h₁, total-split ws b)
 
     pub rows-lifted : (bs : List ℕ) → name_total ws ≤ length bs → rows (changed (lift u d) ws a b) bs ≡ raised (rows ws bs) a b u d
     rows-lifted bs hn =
@@ -72,29 +73,29 @@ module _ (u d : ℕ) where
         let n : m - o ≡ name_total X = omega arith in
         let ta : take a (take b ws) ≡ take a ws = take-take a b ws h₁ in
         let mid : rows X S ≡ drop a (take b R) =
-        ap (rows X) (sym (part_is bs o m (omega arith)) ∙ ap (λ (k : ℕ). take k (drop o bs)) n)
+        ap (rows X) (sym (between_is bs o m) ∙ ap (λ (k : ℕ). take k (drop o bs)) n)
         ∙ rows_short X (drop o bs)
         ∙ ap (λ (l : List ℕ). rows X (drop (name_total l) bs)) (sym ta)
         ∙ rows_drop (take b ws) bs a
         ∙ ap (drop a) (rows_take ws bs b) in
         ap (rows (changed (lift u d) ws a b)) (thirds bs o m (omega arith))
-        ∙ rows-around ws bs (each (lift u d) X ++ Z) (S ++ drop m bs) a o refl (omega arith)
-        ∙ ap (λ (r : List Row). take a R ++ r) (rows-cat (each (lift u d) X) Z S (drop m bs) (l_s ∙ sym (total_each X part-ready)))
-        ∙ (λ i. take a R ++ ((rows_each X S part-ready ∙ ap (each (raise u d)) mid) i ++ rows_drop ws bs b i))
+        ∙ rows-around ws bs (map (lift u d) X ++ Z) (S ++ drop m bs) a o refl (omega arith)
+        ∙ ap (λ (r : List Row). take a R ++ r) (rows-cat (map (lift u d) X) Z S (drop m bs) (l_s ∙ sym (total_each X part-ready)))
+        ∙ (λ i. take a R ++ ((rows_each X S part-ready ∙ ap (map (raise u d)) mid) i ++ rows_drop ws bs b i))
 
 -- what stands behind the changed part stays
 changed-append : (f : ℕ → ℕ) (p q : List ℕ) (a b : ℕ) → a ≤ b → b ≤ length p → changed f (p ++ q) a b ≡ changed f p a b ++ q
 changed-append f p q a b h₁ h₂ =
-    let X : List ℕ = each f (drop a (take b p)) in
-    (λ i. take-append-le a p q (omega arith) i ++ (each f (drop a (take-append-le b p q h₂ i)) ++ drop-append-le b p q h₂ i))
+    let X : List ℕ = map f (drop a (take b p)) in
+    (λ i. take-append-le a p q (omega arith) i ++ (map f (drop a (take-append-le b p q h₂ i)) ++ drop-append-le b p q h₂ i))
     ∙ ap (λ (l : List ℕ). take a p ++ l) (sym (append_assoc X (drop b p) q))
     ∙ sym (append_assoc (take a p) (X ++ drop b p) q)
 
 pub length-changed : (f : ℕ → ℕ) (s : List ℕ) (a b : ℕ) → a ≤ b → b ≤ length s → length (changed f s a b) ≡ length s
 length-changed f s a b h₁ h₂ =
     let X : List ℕ = drop a (take b s) in
-    length-append (take a s) (each f X ++ drop b s)
-    ∙ omega (arith, length-append (each f X) (drop b s), length_each f X, ap length (thirds s a b h₁), length-append (take a s) (X ++ drop b s), length-append X (drop b s))
+    length-append (take a s) (map f X ++ drop b s)
+    ∙ omega (arith, length-append (map f X) (drop b s), length-map X f, ap length (thirds s a b h₁), length-append (take a s) (X ++ drop b s), length-append X (drop b s))
 
 -- ---- entries exchanged
 

@@ -1,6 +1,6 @@
 -- What it leaves of the entries to put one in, to take some out, and to move some.
 -- Assumes nothing.
-use Rattle.std.specs.Prelude.{◌≡◌, cond, List, [], ◌∷◌, ◌++◌, ℕ, suc, ◌+◌, ◌-◌, ◌≤◌, ◌<◌, leb, length, take, drop, get_or}
+use Rattle.std.specs.Prelude.{◌≡◌, cond, List, ◌∷◌, ◌++◌, ℕ, suc, ◌+◌, ◌-◌, ◌≤◌, ◌<◌, leb, length, take, drop, get_or, map}
 use Rattle.layout.specs.Numbers.{depths}
 use Rattle.layout.specs.Fields.{depth_of, slot_of}
 use Rattle.layout.specs.Rows.{Row, rows, name_total}
@@ -30,14 +30,9 @@ pub record Closed (ws bs ws' bs' : List ℕ) (count a b : ℕ) : Type 0 where
   pub record_count : length ws' ≡ length ws
   pub byte_count : length bs' ≡ length bs
 
--- each of a list changed
-unfoldable pub each : {A : Type 0} → (A → A) → List A → List A
-each f [] = []
-each f (x ∷ xs) = f x ∷ each f xs
-
 -- those from a to b changed
 abbrev pub changed : {A : Type 0} → (A → A) → List A → ℕ → ℕ → List A
-changed f xs a b = take a xs ++ (each f (drop a (take b xs)) ++ drop b xs)
+changed f xs a b = take a xs ++ (map f (drop a (take b xs)) ++ drop b xs)
 
 -- a word with a depth greater by up and less by down
 abbrev pub lift : ℕ → ℕ → ℕ → ℕ

@@ -7,32 +7,18 @@ use Rattle.records.proofs.close_entries.Goals as goal
 
 pub overflow_add-u : goal.overflow_add-u
 overflow_add-u c =
-    let s = c in
-    let a = s.args in
-    omega (arith, total_up a.records.now a.a a.b s.requires.0, total_up a.records.now a.b a.count s.requires.1, c.names_between-o.ensures, c.names_between-n.ensures, s.requires.4)
-
-pub overflow_add-u-2 : goal.overflow_add-u-2
-overflow_add-u-2 c =
-    let s = c in
-    let a = s.args in
-    omega (arith, total_up a.records.now a.a a.b s.requires.0, total_up a.records.now a.b a.count s.requires.1, c.names_between-o.ensures, c.names_between-n.ensures, c.names_between.ensures, s.requires.4)
-
-pub close_gap-requires : goal.close_gap-requires
-close_gap-requires c =
-    let s = c in
-    let a = s.args in
-    omega (arith, total_up a.records.now a.a a.b s.requires.0, total_up a.records.now a.b a.count s.requires.1, c.names_between-o.ensures, c.names_between-n.ensures, c.names_between.ensures, s.requires.4)
+    let a = c.args in
+    omega (arith, total_up a.records.now a.a a.b c.requires.0, total_up a.records.now a.b a.count c.requires.1, c.names_to-o.ensures, c.names_between-n.ensures, c.requires.4)
 
 pub returns : goal.returns
 returns c =
-    let s = c in
-    let a = s.args in
-    let p = s.requires in
-    let o = c.names_between-o in
+    let a = c.args in
+    let p = c.requires in
+    let o = c.names_to-o in
     let n = c.names_between-n in
     let z = c.names_between in
     let gap = c.close_gap in
-    let low = c.close_words in
+    let low = c.close_gap-2 in
     let m = total-sum a.records.now a.a a.b o.result n.result p.0 o.ensures n.ensures in
     closed_all
     a.records.now

@@ -9,18 +9,16 @@ use Rattle.records.proofs.move_block.Goals as goal
 
 pub swing-requires : goal.swing-requires
 swing-requires c =
-    let s = c in
-    let a = s.args in
-    let p = s.requires in
+    let a = c.args in
+    let p = c.requires in
     let w = c.lift_words in
     let r = names-room a.records.now a.bytes.now w.new.records a.count a.a a.b a.up a.down p.0 p.1 p.4 p.6 p.8 w.ensures a.b p.1 in
     (c.if-p-a.true, p.0, omega (arith, w.auto.records, p.4), omega (arith, p.5), r)
 
 pub returns-then-p-a : goal.returns-then-p-a
 returns-then-p-a c =
-    let s = c in
-    let a = s.args in
-    let p = s.requires in
+    let a = c.args in
+    let p = c.requires in
     let w = c.lift_words in
     let g = c.swing in
     let R = raised (rows (take a.count a.records.now) a.bytes.now) a.a a.b a.up a.down in
@@ -57,18 +55,16 @@ returns-then-p-a c =
 
 pub swing-requires-2 : goal.swing-requires-2
 swing-requires-2 c =
-    let s = c in
-    let a = s.args in
-    let p = s.requires in
+    let a = c.args in
+    let p = c.requires in
     let w = c.lift_words in
     let r = names-room a.records.now a.bytes.now w.new.records a.count a.a a.b a.up a.down p.0 p.1 p.4 p.6 p.8 w.ensures a.p p.2 in
     (p.0, p.3 c.if-p-a.false, omega (arith, w.auto.records, p.4), omega (arith, p.5), r)
 
 pub returns : goal.returns
 returns c =
-    let s = c in
-    let a = s.args in
-    let p = s.requires in
+    let a = c.args in
+    let p = c.requires in
     let w = c.lift_words in
     let g = c.swing-2 in
     let R = raised (rows (take a.count a.records.now) a.bytes.now) a.a a.b a.up a.down in
