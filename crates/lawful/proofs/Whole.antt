@@ -17,7 +17,7 @@ use Rattle.slots.proofs.Rowed.{uses-rows}
 use Rattle.lawful_limits.specs.Settles.{Settles}
 use Rattle.slots.specs.Uses.{uses_in, stands_from}
 use Rattle.lawful_entries.specs.Fits.{kind_in}
-use Rattle.lawful_limits.specs.Limits.{Limits, Lengths}
+use Rattle.lawful_limits.specs.Limits.{Limits}
 use Rattle.lawful.specs.Parts.{Kept, SlotsHeld, Parts}
 
 -- ---- the parts
@@ -112,16 +112,10 @@ module _ (st : Store) where
     slotted = omega (arith, word 0 (omega arith), word 101 (omega arith), p.1.slotted);
   })
 
-  pub pass-lengths : (Lengths st.words (length st.records) (length st.heads) (length st.times) (length st.paths) (length st.bytes) → ⊥) → Keeps st → ⊥
-  pass-lengths n p = n (record { records = p.0.records; heads = p.0.heads; times = p.0.times; paths = p.0.paths; bytes = p.0.bytes })
-
-  module _ (m : Limits st.words) (l : Lengths st.words (length st.records) (length st.heads) (length st.times) (length st.paths) (length st.bytes)) where
+  module _ (m : Limits st.words) (l : Long st) where
     -- the records of the entries
     records-live : live (core st) ≡ take (count st) st.records
     records-live = ap (λ (n : ℕ). take n (take (most st) st.records)) (word 2 (omega arith)) ∙ take-take (count st) (most st) st.records m.counted
-
-    long : Long st
-    long = record { words = m.words; records = l.records; heads = l.heads; times = l.times; paths = l.paths; bytes = l.bytes }
 
     exact : Exact (core st)
     exact = record {
@@ -138,5 +132,5 @@ module _ (st : Store) where
     parts_cut = ap (λ (ws : List ℕ). Parts (core st).words ws (core st).heads (core st).paths (core st).bytes) records-live
 
     pub pass-parts : (r : Bool) → Settles r PartsOf → Settles r (Keeps st)
-    pass-parts true p = (long, parts-lawful (core st) exact (limits-cut m) (subst (λ (x : Type 0). x) (sym parts_cut) p))
+    pass-parts true p = (l, parts-lawful (core st) exact (limits-cut m) (subst (λ (x : Type 0). x) (sym parts_cut) p))
     pass-parts false n = λ p. n (subst (λ (x : Type 0). x) parts_cut (lawful-parts (core st) p.1))

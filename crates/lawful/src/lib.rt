@@ -35,38 +35,21 @@ fn parts_ok(words: &[u64], recs: &[u64], heads: &[u64], paths: &[u8], bytes: &[u
 }
 
 // Whether the slices keep the rules; each may be longer than the limits ask. Slots behind those so far are not looked at.
-fn rules_ok(
-    words: &[u64],
-    records: &[u64],
-    heads: &[u64],
-    times: &[i64],
-    paths: &[u8],
-    bytes: &[u8],
-) -> bool
-    ensures { Settles result (Keeps (lends words.now records.now heads.now times.now paths.now bytes.now)) }
+fn rules_ok(s: Slices) -> bool
+    ensures { Settles result (Keeps (lent_by s.entry)) }
 {
-    if !lawful_limits::limits_ok(words) {
+    if !lawful_limits::limits_ok(s.words) || !lawful_limits::lengths_ok(s) {
         return false;
     }
-    if !lawful_limits::lengths_ok(
-        words,
-        records.len(),
-        heads.len(),
-        times.len(),
-        paths.len(),
-        bytes.len(),
-    ) {
-        return false;
-    }
-    let slots = words[EXTENT_AT] as usize;
-    let room = words[ROOM_AT] as usize;
-    let count = words[COUNT_AT] as usize;
+    let slots = s.words[EXTENT_AT] as usize;
+    let room = s.words[ROOM_AT] as usize;
+    let count = s.words[COUNT_AT] as usize;
     parts_ok(
-        &words[..WORD_COUNT],
-        &records[..count],
-        &heads[..slots],
-        &paths[..PATHS_BYTES],
-        &bytes[..room],
+        &s.words[..WORD_COUNT],
+        &s.records[..count],
+        &s.heads[..slots],
+        &s.paths[..PATHS_BYTES],
+        &s.bytes[..room],
     )
 }
 
@@ -83,12 +66,5 @@ pub fn store_ok(lent: Slices) -> bool
 {
     sizes::known(lent.times);
     unsigned_known(lent.words, lent.heads, lent.bytes);
-    rules_ok(
-        lent.words,
-        lent.records,
-        lent.heads,
-        lent.times,
-        lent.paths,
-        lent.bytes,
-    )
+    rules_ok(lent)
 }

@@ -1,8 +1,13 @@
 #![tactic(auto)]
 // Limits of a store, and the lengths that they ask.
+ghost use Rattle.std.specs.Prelude.{◌≡◌, ◌≤◌};
+ghost use Rattle.layout.specs.Numbers.{most_entries};
+ghost use Rattle.layout.specs.Lawful.{Long};
+ghost use Rattle.layout.specs.Lent.{lent_by};
 ghost use Rattle.lawful_limits.specs.Settles.{Settles};
-ghost use Rattle.lawful_limits.specs.Limits.{Limits, Lengths};
+ghost use Rattle.lawful_limits.specs.Limits.{Limits, lengths_fit};
 
+use layout::slices::Slices;
 use layout::{
     COUNT_AT, EXTENT_AT, FILE_NUMBERS, LEAST_BYTES, MASK_AT, MODE_UNIT, MOST_AT, MOST_BYTES,
     MOST_ENTRIES, PATHS_BYTES, ROOM_AT, WORD_COUNT,
@@ -10,8 +15,6 @@ use layout::{
 
 // How many slots a store may have beyond its entry limit.
 const BEYOND: u64 = FILE_NUMBERS as u64;
-
-const LAST_MODE: u64 = MODE_UNIT - 1;
 
 // Whether the entry limit, the byte limit, the number of entries, the umask and the number of slots are in range.
 pub fn limits_ok(words: &[u64]) -> bool
@@ -21,52 +24,28 @@ pub fn limits_ok(words: &[u64]) -> bool
         return false;
     }
     let most = words[MOST_AT];
-    if most < 1 {
-        return false;
-    }
-    if MOST_ENTRIES < most {
-        return false;
-    }
-    let room = words[ROOM_AT];
-    if room < LEAST_BYTES {
-        return false;
-    }
-    if MOST_BYTES < room {
-        return false;
-    }
-    if most < words[COUNT_AT] {
-        return false;
-    }
-    if LAST_MODE < words[MASK_AT] {
-        return false;
-    }
-    words[EXTENT_AT] <= most + BEYOND
+    (1..=MOST_ENTRIES).contains(&most)
+        && (LEAST_BYTES..=MOST_BYTES).contains(&words[ROOM_AT])
+        && words[COUNT_AT] <= most
+        && words[MASK_AT] < MODE_UNIT
+        && words[EXTENT_AT] <= most + BEYOND
 }
 
-// Whether the other slices are long enough.
-pub fn lengths_ok(
-    words: &[u64],
-    records: usize,
-    heads: usize,
-    times: usize,
-    paths: usize,
-    bytes: usize,
-) -> bool
-    requires { Limits words.now }
-    ensures { Settles result (Lengths words.now records heads times paths bytes) }
+// Whether the records, the slots' words and times and the cells are long enough for an entry limit.
+pub fn lengths_fit(s: Slices, most: usize) -> bool
+    requires { most ≤ most_entries }
+    ensures { result ≡ lengths_fit (lent_by s.entry) most }
 {
-    let most = words[MOST_AT] as usize;
-    if records < most {
-        return false;
-    }
-    if heads < most + FILE_NUMBERS {
-        return false;
-    }
-    if times < 4 * (most + FILE_NUMBERS) {
-        return false;
-    }
-    if paths < PATHS_BYTES {
-        return false;
-    }
-    words[ROOM_AT] as usize <= bytes
+    most <= s.records.len()
+        && most + FILE_NUMBERS <= s.heads.len()
+        && 4 * (most + FILE_NUMBERS) <= s.times.len()
+        && PATHS_BYTES <= s.paths.len()
+}
+
+// Whether the other slices are as long as the limits ask, or longer.
+pub fn lengths_ok(s: Slices) -> bool
+    requires { Limits s.words.now }
+    ensures { Settles result (Long (lent_by s.entry)) }
+{
+    lengths_fit(s, s.words[MOST_AT] as usize) && s.words[ROOM_AT] as usize <= s.bytes.len()
 }

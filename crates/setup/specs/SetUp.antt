@@ -7,12 +7,12 @@ use Rattle.layout.specs.Store.{Store, slots_for, core, spare, state}
 use Rattle.layout.specs.Lawful.{Keeps}
 
 -- "an entry limit of 1 to 4,096", and each slice of the entry storage long enough for it
-unfoldable pub entries_fit : ℕ → ℕ → ℕ → ℕ → ℕ → ℕ → Bool
+abbrev pub entries_fit : ℕ → ℕ → ℕ → ℕ → ℕ → ℕ → Bool
 entries_fit words records heads times paths m =
     leb 1 m && (leb m most_entries && (leb word_count words && (leb m records && (leb (slots_for m) heads && (leb (4 * slots_for m) times && leb paths_bytes paths)))))
 
 -- "a byte limit of 256 to 1,048,576", and the byte storage long enough for it
-unfoldable pub bytes_fit : ℕ → ℕ → Bool
+abbrev pub bytes_fit : ℕ → ℕ → Bool
 bytes_fit bytes b = leb least_bytes b && (leb b most_bytes && leb b bytes)
 
 -- 15, 16 or 0: 15 is asked before 16

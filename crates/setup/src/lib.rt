@@ -1,84 +1,42 @@
 #![tactic(auto)]
 // Set up: a fresh store in what the caller lends.
-ghost use Rattle.std.specs.Prelude.{◌≡◌, ◌++◌, ◌≤◌, length, drop, replicate};
+ghost use Rattle.std.specs.Prelude.{◌≡◌, ◌≤◌, length};
 ghost use Rattle.layout.specs.Numbers.{word_count};
 ghost use Rattle.layout.specs.Lent.{lends};
 ghost use Rattle.refusal.specs.Numbers.{answered};
 ghost use Rattle.setup.specs.SetUp.{entries_fit, bytes_fit, fresh_words, IsSetUp};
 
-use layout::{
-    FILE_NUMBERS, LEAST_BYTES, MASK_AT, MOST_AT, MOST_BYTES, MOST_ENTRIES, PATHS_BYTES, ROOM_AT,
-    WORD_COUNT,
-};
+use lawful_limits::lengths_fit;
+use layout::slices::Slices;
+use layout::{LEAST_BYTES, MASK_AT, MOST_AT, MOST_BYTES, MOST_ENTRIES, ROOM_AT, WORD_COUNT};
 use refusal::Refusal;
-
-// Zeros in front of all else.
-fn zero_words(s: &mut [u64], n: usize)
-    requires { n ≤ length s.old }
-    ensures { s.new ≡ replicate n 0 ++ drop n s.old }
-{
-    let mut i = 0;
-    while i < n {
-        s[i] = 0;
-        i += 1;
-    }
-}
 
 // The limits, no entry, the umask octal 666, the root as current directory, every file number closed, no slot.
 fn fresh_words(words: &mut [u64], entries: u64, bytes: u64)
     requires { word_count ≤ length words.old }
     ensures { words.new ≡ fresh_words entries bytes words.old }
 {
-    zero_words(words, WORD_COUNT);
+    words[..WORD_COUNT].fill(0);
     words[MOST_AT] = entries;
     words[ROOM_AT] = bytes;
     words[MASK_AT] = 0o666;
 }
 
 // Whether the limit is one of 1 to 4,096, and the entry storage long enough for it.
-fn entries_fit(
-    words: usize,
-    records: usize,
-    heads: usize,
-    times: usize,
-    paths: usize,
-    limit: u64,
-) -> bool
-    ensures { result ≡ entries_fit words records heads times paths limit }
+fn entries_fit(s: Slices, limit: u64) -> bool
+    ensures { result ≡ entries_fit (length s.entry.words.now) (length s.entry.records.now) (length s.entry.heads.now)
+        (length s.entry.times.now) (length s.entry.paths.now) limit }
 {
-    if limit < 1 {
-        return false;
-    }
-    if MOST_ENTRIES < limit {
-        return false;
-    }
-    let n = limit as usize;
-    if words < WORD_COUNT {
-        return false;
-    }
-    if records < n {
-        return false;
-    }
-    if heads < n + FILE_NUMBERS {
-        return false;
-    }
-    if times < 4 * (n + FILE_NUMBERS) {
-        return false;
-    }
-    PATHS_BYTES <= paths
+    (1..=MOST_ENTRIES).contains(&limit)
+        && WORD_COUNT <= s.words.len()
+        && lengths_fit(s, limit as usize)
 }
 
 // Whether the limit is one of 256 to 1,048,576, and the byte storage long enough for it.
 fn bytes_fit(bytes: usize, limit: u64) -> bool
     ensures { result ≡ bytes_fit bytes limit }
 {
-    if limit < LEAST_BYTES {
-        return false;
-    }
-    if MOST_BYTES < limit {
-        return false;
-    }
-    limit as usize <= bytes
+    (LEAST_BYTES..=MOST_BYTES).contains(&limit) && limit as usize <= bytes
 }
 
 // Refusal 15 or 16, or a fresh store. Only the state's words are written: a fresh store has no slot.
@@ -96,14 +54,15 @@ pub fn set_up(
     ensures { IsSetUp limit room (lends words.old records.now heads.now times.now paths.now bytes.now)
         (lends words.new records.now heads.now times.now paths.now bytes.now) (answered result) }
 {
-    if !entries_fit(
-        words.len(),
-        records.len(),
-        heads.len(),
-        times.len(),
-        paths.len(),
-        limit,
-    ) {
+    let lent = Slices {
+        words,
+        records,
+        heads,
+        times,
+        paths,
+        bytes,
+    };
+    if !entries_fit(lent, limit) {
         return Err(Refusal::NoEntries);
     }
     if !bytes_fit(bytes.len(), room) {
