@@ -4,85 +4,25 @@
 -- Assumes nothing.
 use mathlib.Core.Bool.{Bool, true, false}
 use mathlib.Core.Path.{◌≡◌, refl, ◌∙◌}
-use Prim.Native.Nat.{ℕ, zero, suc, ◌+◌, ◌*◌, ◌≤◌, ◌<◌}
+use Prim.Native.Nat.{ℕ, ◌+◌, ◌≤◌, ◌<◌}
 use native.Mathlib.Omega.{arith}
 use lib.Dec.{ltb}
 use lib.ListN.{length, take, drop, get_or, length-drop, get_or-eq_default}
 use lib.Seq.{get_or-take, get_or-drop, length-take-le}
 use borrow.Author.Tests.{ltb-true, ltb-false}
 use Rattle.text.specs.Utf8.{Bytes}
-use Rattle.model.proofs.Ordering.{Sides, less, equal, more, sides}
 use Rattle.name_order.specs.Order.{order_of, number}
 use Rattle.std.specs.declared.cmp.Ordering.TheVariants.{Less}
-use Rattle.name_order.proofs.Orders.{order-short, order-less, order_next}
-
--- the first byte in which s from i on differs from t from j on is less in s
-record Lower (s t : Bytes) (i j : ℕ) : Type 0 where
-  at : ℕ
-  alike : (m : ℕ) → m < at → get_or s (i + m) 0 ≡ get_or t (j + m) 0
-  lower : get_or s (i + at) 0 < get_or t (j + at) 0
-
-module _ (s t : Bytes) (i j : ℕ) (f : (m : ℕ) → get_or s m 0 < 256) (g : (m : ℕ) → get_or t m 0 < 256) where
-  -- runs of one number are the same
-  alike : (k : ℕ) → number k i s ≡ number k j t → (m : ℕ) → m < k → get_or s (i + m) 0 ≡ get_or t (j + m) 0
-  unfolding number
-  alike zero e m l = absurd (omega (arith, l))
-  alike (suc k) e m l = go (alike k (omega (arith, e, f (i + k), g (j + k))) m) (ltb m k) refl
-    where
-      go : (m < k → get_or s (i + m) 0 ≡ get_or t (j + m) 0) → (b : Bool) → ltb m k ≡ b → get_or s (i + m) 0 ≡ get_or t (j + m) 0
-      go h true q = h (ltb-true m k q)
-      go h false q = let r : m ≡ k = omega (arith, l, ltb-false m k q) in rw r (omega (arith, e, f (i + k), g (j + k)))
-
-  lower : (k : ℕ) → number k i s < number k j t → Lower s t i j
-  unfolding number
-  lower zero l = absurd (omega (arith, l))
-  lower (suc k) l = go (lower k) (sides (number k i s) (number k j t))
-    where
-      go : (number k i s < number k j t → Lower s t i j) → Sides (number k i s) (number k j t) → Lower s t i j
-      go h (less z) = h z
-      go h (equal z) = record { at = k; alike = alike k z; lower = omega (arith, l, z) }
-      go h (more z) = absurd (omega (arith, l, z, g (j + k)))
-
-module _ (a b : Bytes) where
-  -- names are compared from their first byte on in which they differ
-  past : (k : ℕ) → k ≤ length a → k ≤ length b → ((m : ℕ) → m < k → get_or a m 0 ≡ get_or b m 0) → order_of a b ≡ order_of (drop k a) (drop k b)
-  past zero l m h = refl
-  past (suc k) l m h = past k (omega (arith, l)) (omega (arith, m)) (λ n w. h n (omega (arith, w))) ∙ order_next a b k (omega (arith, l)) (omega (arith, m)) (h k (omega arith))
-
--- ---- one byte after the other
-
-pub number_none : (x : Bytes) → number 0 0 x ≡ 0
-unfolding number
-number_none x = refl
-
-pub number_next : (x : Bytes) (k : ℕ) → number k 0 x * 256 + get_or x k 0 ≡ number (suc k) 0 x
-unfolding number
-number_next x k = let e : 0 + k ≡ k = omega arith in rw e
-
--- fewer bytes, a lesser number
-number_more : (x : Bytes) (k m : ℕ) → k ≤ m → number k 0 x ≤ number m 0 x
-unfolding number
-number_more x k zero l = let e : k ≡ 0 = omega (arith, l) in rw e (omega arith)
-number_more x k (suc m) l = go (number_more x k m) (ltb m k) refl
-  where
-    go : (k ≤ m → number k 0 x ≤ number m 0 x) → (b : Bool) → ltb m k ≡ b → number k 0 x ≤ number (suc m) 0 x
-    go h true q = let e : k ≡ suc m = omega (arith, l, ltb-true m k q) in rw e (omega arith)
-    go h false q = omega (arith, h (ltb-false m k q))
-
--- seven bytes leave room for one more
-pub number_small : (x : Bytes) → ((m : ℕ) → get_or x m 0 < 256) → (k : ℕ) → k < 8 → number k 0 x < 72057594037927936
-unfolding number
-number_small x g k l = omega (arith, number_more x k 7 (omega (arith, l)), g 0, g 1, g 2, g 3, g 4, g 5, g 6)
-
--- ---- by eight bytes
+use Rattle.name_order.proofs.Orders.{order-short, order-less, past}
+use Rattle.name_order.proofs.Numbers.{Lower, lower}
 
 -- the name of n bytes at o, by the eight bytes there, which may reach behind it
 pub key-less : (s x : Bytes) (o n : ℕ) → ((m : ℕ) → get_or s m 0 < 256) → ((m : ℕ) → get_or x m 0 < 256) → o + n ≤ length s
     → number 8 o s < number 8 0 x → order_of (take n (drop o s)) x ≡ Less
 key-less s x o n f g r l = go (ltb d.at n) refl
   where
-    d : Lower s x o 0
-    d = lower s x o 0 f g 8 l
+    d : Lower s x o 0 8
+    d = lower s x f g o 0 8 l
 
     size : length (take n (drop o s)) ≡ n
     size = length-take-le n (drop o s) (omega (arith, length-drop o s, r))

@@ -1,10 +1,9 @@
--- `order::compare_long` meets its contract: the names are the same before i. Assumes nothing.
-use Prim.Native.Nat.{◌-◌, ◌<◌}
-use Rattle.name_order.proofs.Numbers.{Level}
+-- `compare_long` meets its contract: the bytes that were passed are the same. Assumes nothing.
+use Prim.Native.Nat.{◌*◌}
+use lib.ListN.{length}
+use Rattle.name_order.proofs.Orders.{Alike}
 use Rattle.name_order.proofs.compare_long.Given as goal
 
-abbrev pub invariant-loop-i : goal.invariant-loop-i
-invariant-loop-i l = (l.i < l.n) × Level l.a l.b l.i
-
-abbrev pub decreases-loop-i : goal.decreases-loop-i
-decreases-loop-i l = l.n - l.i
+abbrev pub invariant-loop-x : goal.invariant-loop-x
+invariant-loop-x l =
+    (goal.iterator-loop-x).can_next l.x-iterator × (goal.iterator-loop-x).is_finite l.x-iterator × Alike l.a l.b (8 * length l.yielded)

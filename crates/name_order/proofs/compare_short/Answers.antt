@@ -1,29 +1,23 @@
--- `order::compare_short` meets its contract: two runs of four cover all bytes. Assumes nothing.
-use mathlib.Core.Path.{sym, ◌∙◌}
-use Prim.Native.Nat.{◌+◌, ◌-◌}
+-- `compare_short` meets its contract: two runs of four cover all bytes. Assumes nothing.
+use mathlib.Core.Path.{◌≡◌, ◌∙◌}
+use Prim.Native.Nat.{ℕ, ◌+◌, ◌-◌, ◌<◌}
 use native.Mathlib.Omega.{arith}
-use Rattle.name_order.proofs.Numbers.{Level, level-start, level-back, run-less, run_more, run-same, by_end}
-use Rattle.name_order.proofs.compare_short.Goals.{Else-y-x}
+use lib.ListN.{get_or}
+use Rattle.name_order.specs.Order.{order_of}
+use Rattle.name_order.proofs.Orders.{Alike}
+use Rattle.name_order.proofs.Numbers.{run_then, by_end}
 use Rattle.name_order.proofs.compare_short.Goals as goal
-
--- src/lib.rt:63:9
--- the first four bytes are the same
-level : (c : Else-y-x) → Level c.args.a.now c.args.b.now 4
-level c = run-same c.args.a.now c.args.b.now 0 (λ m. omega (arith, c.type_inv.a m)) (λ m. omega (arith, c.type_inv.b m)) (level-start c.args.a.now c.args.b.now) 4 (omega (arith, c.requires.0, c.requires.2.first, c.requires.2.second)) (omega (arith, c.requires.0, c.requires.2.first, c.requires.2.second)) (omega (arith, c.if-y-x.false, c.half-x.ensures.0, c.half-y.ensures.0)) (omega (arith, c.if-x-y.false, c.half-x.ensures.0, c.half-y.ensures.0))
-
-pub returns-then-x-y : goal.returns-then-x-y
-returns-then-x-y c = sym (run-less c.args.a.now c.args.b.now 0 (λ m. omega (arith, c.type_inv.a m)) (λ m. omega (arith, c.type_inv.b m)) (level-start c.args.a.now c.args.b.now) 4 (omega (arith, c.requires.0, c.requires.2.first, c.requires.2.second)) (omega (arith, c.requires.0, c.requires.2.first, c.requires.2.second)) (omega (arith, c.if-x-y.true, c.half-x.ensures.0, c.half-y.ensures.0)))
-
-pub returns-then-y-x : goal.returns-then-y-x
-returns-then-y-x c = sym (run_more c.args.a.now c.args.b.now 0 (λ m. omega (arith, c.type_inv.a m)) (λ m. omega (arith, c.type_inv.b m)) (level-start c.args.a.now c.args.b.now) 4 (omega (arith, c.requires.0, c.requires.2.first, c.requires.2.second)) (omega (arith, c.requires.0, c.requires.2.first, c.requires.2.second)) (omega (arith, c.if-y-x.true, c.half-x.ensures.0, c.half-y.ensures.0)))
-
-pub returns-then-v-w : goal.returns-then-v-w
-returns-then-v-w c = sym (run-less c.args.a.now c.args.b.now (c.args.n - 4) (λ m. omega (arith, c.type_inv.a m)) (λ m. omega (arith, c.type_inv.b m)) (level-back c.args.a.now c.args.b.now 4 (c.args.n - 4) (omega (arith, c.requires.1)) (level (goal.at.returns-then-v-w c).Else-y-x)) 4 (omega (arith, c.requires.0, c.requires.2.first, c.requires.2.second)) (omega (arith, c.requires.0, c.requires.2.first, c.requires.2.second)) (omega (arith, c.if-v-w.true, c.half-v.ensures.0, c.half-w.ensures.0)))
-
-pub returns-then-w-v : goal.returns-then-w-v
-returns-then-w-v c = sym (run_more c.args.a.now c.args.b.now (c.args.n - 4) (λ m. omega (arith, c.type_inv.a m)) (λ m. omega (arith, c.type_inv.b m)) (level-back c.args.a.now c.args.b.now 4 (c.args.n - 4) (omega (arith, c.requires.1)) (level (goal.at.returns-then-w-v c).Else-y-x)) 4 (omega (arith, c.requires.0, c.requires.2.first, c.requires.2.second)) (omega (arith, c.requires.0, c.requires.2.first, c.requires.2.second)) (omega (arith, c.if-w-v.true, c.half-v.ensures.0, c.half-w.ensures.0)))
 
 pub returns : goal.returns
 returns c =
-    let v = run-same c.args.a.now c.args.b.now (c.args.n - 4) (λ m. omega (arith, c.type_inv.a m)) (λ m. omega (arith, c.type_inv.b m)) (level-back c.args.a.now c.args.b.now 4 (c.args.n - 4) (omega (arith, c.requires.1)) (level (goal.at.returns c).Else-y-x)) 4 (omega (arith, c.requires.0, c.requires.2.first, c.requires.2.second)) (omega (arith, c.requires.0, c.requires.2.first, c.requires.2.second)) (omega (arith, c.if-w-v.false, c.half-v.ensures.0, c.half-w.ensures.0)) (omega (arith, c.if-v-w.false, c.half-v.ensures.0, c.half-w.ensures.0)) in
-    c.by_length.ensures ∙ by_end c.args.a.now c.args.b.now c.args.n c.requires.2 (level-back c.args.a.now c.args.b.now (c.args.n - 4 + 4) c.args.n (omega (arith, c.requires.0)) v)
+    let a = c.args.a.now in
+    let b = c.args.b.now in
+    let f : (m : ℕ) → get_or a m 0 < 256 = λ m. omega (arith, c.type_inv.a m) in
+    let g : (m : ℕ) → get_or b m 0 < 256 = λ m. omega (arith, c.type_inv.b m) in
+    let n = c.args.n in
+    let k : n - 4 + 4 ≡ n = omega arith in
+    let last : Alike a b 4 → c.then-last.result ≡ order_of a b = λ h. (
+    let r = run_then a b f g (n - 4) 4 (λ m l. h m (omega arith)) (omega arith) (omega arith) c.cmp-2.result (λ u. c.cmp-2.ensures ∙ by_end a b n c.requires.2 (rw k at u)) in
+    cc) in
+    let r = run_then a b f g 0 4 (λ m l. absurd (omega arith)) (omega arith) (omega arith) c.then-last.result last in
+    cc

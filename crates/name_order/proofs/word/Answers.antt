@@ -1,7 +1,7 @@
--- `order::word` meets its contract. Assumes nothing.
-use native.Mathlib.Omega.{arith}
-use Rattle.name_order.proofs.Numbers.{eight}
+-- `word` meets its contract: the bytes of the part are those of the slice. Assumes nothing.
+use mathlib.Core.Path.{◌∙◌}
+use Rattle.name_order.proofs.Numbers.{eight, number_part}
 use Rattle.name_order.proofs.word.Goals as goal
 
 pub returns : goal.returns
-returns c = omega (arith, c.half-2.ensures.0, c.half.ensures.0, eight c.args.i c.args.s.now)
+returns c = c.from_be_bytes.ensures ∙ eight c.unwrap.result ∙ number_part 8 c.args.i c.args.s.now c.unwrap.result (rw c.unwrap.ensures at c.try_into.ensures.1)
