@@ -20,8 +20,7 @@ use Rattle.layout.specs.Store.{Store, lent}
 use Rattle.ask_find.specs.declared.Spot.{Spot}
 use Rattle.ask_entry.specs.declared.Stat as shown
 use Rattle.ask_entry.specs.Reads.{stat_from}
-use Rattle.ask_list.specs.declared.Step.{Step}
-use Rattle.ask_list.specs.declared.Step.TheVariants.{Entry, End}
+use Rattle.std.specs.Prelude.{Option, Some, None}
 use Rattle.store.specs.Shows.{Shows, Stands, SomeEntry, says}
 use Rattle.store.specs.Listing.{listed, rest, StepIs}
 use Rattle.op_look.specs.Rows.{SomeRows}
@@ -55,7 +54,7 @@ behind-front a b l n m x y =
 -- ---- entry by entry, in one state
 
 -- entries were given out, and their records stand in front of the row, up to the place; the others are left, and begin with the step
-pub record Given (st : Store) (s : State) (p : Path) (l : List (Name × Stat)) (first rows : List ℤ) (at : ℕ) (step : Step) : Type 0 where
+pub record Given (st : Store) (s : State) (p : Path) (l : List (Name × Stat)) (first rows : List ℤ) (at : ℕ) (step : Option Spot) : Type 0 where
   pub out : List (Name × Stat)
   pub left : List (Name × Stat)
   pub whole : l ≡ out ++ left
@@ -64,21 +63,21 @@ pub record Given (st : Store) (s : State) (p : Path) (l : List (Name × Stat)) (
   pub next : StepIs st s p left step
 
 module _ (st : Store) (s : State) (p : Path) (l : List (Name × Stat)) (first : List ℤ) where
-  given_none : (step : Step) → StepIs st s p l step → Given st s p l first first 0 step
+  given_none : (step : Option Spot) → StepIs st s p l step → Given st s p l first first 0 step
   unfolding row_numbers stats_of
   given_none step b = record { out = []; left = l; whole = refl; place = refl; row = refl; next = b }
 
-  given_all : (rows : List ℤ) (at : ℕ) → Given st s p l first rows at End → rows ≡ in_front (numbers l) first
+  given_all : (rows : List ℤ) (at : ℕ) → Given st s p l first rows at None → rows ≡ in_front (numbers l) first
   given_all rows at g =
       g.row ∙ ap (λ (x : List (Name × Stat)). in_front (numbers x) first) (sym (append-nil g.out) ∙ ap (λ (x : List (Name × Stat)). g.out ++ x) (sym g.next) ∙ sym g.whole)
 
-  module _ (rows : List ℤ) (at : ℕ) (spot : Spot) (g : Given st s p l first rows at (Entry spot)) where
+  module _ (rows : List ℤ) (at : ℕ) (spot : Spot) (g : Given st s p l first rows at (Some spot)) where
     given-room : 7 * length l ≤ length first → at + 7 ≤ length first
     given-room f =
         omega (arith, f, numbers-length g.out, g.place, ap length g.whole ∙ length-append g.out g.left, ap length g.next.list)
 
     given-next : (x : Stat) → says (stat? (p ++ (g.next.name ∷ []))) s ≡ some x → (after : List ℤ) → after ≡ take at rows ++ (stat_numbers x ++ drop (at + 7) rows)
-        → (step : Step) → StepIs st s p (rest st p spot) step → Given st s p l first after (at + 7) step
+        → (step : Option Spot) → StepIs st s p (rest st p spot) step → Given st s p l first after (at + 7) step
     given-next x y after e step b =
         let z : x ≡ g.next.stat = some_inj (sym y ∙ g.next.told) in
         let d : Name × Stat = (g.next.name, x) in
@@ -103,7 +102,7 @@ abbrev pub four : List ℕ → List ℕ → List ℕ → List ℤ → Store → 
 four words records heads times st = lent words records heads times st.paths st.bytes
 
 -- some list of entries begins with the step, and the row holds a record of each
-pub record Held (has : Store → Store) (start : Step) (rows : List ℤ) : Type 0 where
+pub record Held (has : Store → Store) (start : Option Spot) (rows : List ℤ) : Type 0 where
   pub store : Store
   pub state : State
   pub path : Path
@@ -113,11 +112,11 @@ pub record Held (has : Store → Store) (start : Step) (rows : List ℤ) : Type 
   pub fits : 7 * length list ≤ length rows
 
 -- of every list of entries that begins with the first step, some were given out
-pub record Filling (has : Store → Store) (start : Step) (first rows : List ℤ) (at : ℕ) (step : Step) : Type 0 where
+pub record Filling (has : Store → Store) (start : Option Spot) (first rows : List ℤ) (at : ℕ) (step : Option Spot) : Type 0 where
   pub long : length rows ≡ length first
   pub given : (st : Store) (s : State) → Shows (has st) s → (p : Path) (l : List (Name × Stat)) → StepIs (has st) s p l start → Given (has st) s p l first rows at step
 
-module _ (has : Store → Store) (start : Step) (first : List ℤ) where
+module _ (has : Store → Store) (start : Option Spot) (first : List ℤ) where
   pub held : (spot : Spot) → SomeRows has spot first → ((st : Store) (s : State) → Shows (has st) s → (p : Path) → Stands (has st) spot p → StepIs (has st) s p (listed s p) start)
       → Held has start first
   held spot x b = record { store = x.0; state = x.1; path = x.2; list = listed x.1 x.2; shows = x.3; begins = b x.0 x.1 x.3 x.2 x.4; fits = x.5 }
@@ -125,16 +124,16 @@ module _ (has : Store → Store) (start : Step) (first : List ℤ) where
   pub fill_start : Filling has start first first 0 start
   fill_start = record { long = refl; given = λ st s h p l b. given_none (has st) s p l first start b }
 
-  module _ (rows : List ℤ) (at : ℕ) (step : Step) (f : Filling has start first rows at step) where
-    pub fill_end : step ≡ End → (st : Store) (s : State) → Shows (has st) s → (p : Path) (l : List (Name × Stat)) → StepIs (has st) s p l start → rows ≡ in_front (numbers l) first
+  module _ (rows : List ℤ) (at : ℕ) (step : Option Spot) (f : Filling has start first rows at step) where
+    pub fill_end : step ≡ None → (st : Store) (s : State) → Shows (has st) s → (p : Path) (l : List (Name × Stat)) → StepIs (has st) s p l start → rows ≡ in_front (numbers l) first
     fill_end e st s h p l b = given_all (has st) s p l first rows at (subst (Given (has st) s p l first rows at) e (f.given st s h p l b))
 
-    module _ (spot : Spot) (e : step ≡ Entry spot) where
-      turn : (st : Store) (s : State) → Shows (has st) s → (p : Path) (l : List (Name × Stat)) → StepIs (has st) s p l start → Given (has st) s p l first rows at (Entry spot)
+    module _ (spot : Spot) (e : step ≡ Some spot) where
+      turn : (st : Store) (s : State) → Shows (has st) s → (p : Path) (l : List (Name × Stat)) → StepIs (has st) s p l start → Given (has st) s p l first rows at (Some spot)
       turn st s h p l b = subst (Given (has st) s p l first rows at) e (f.given st s h p l b)
 
       -- the entry of the store that is known
-      met : (k : Held has start first) → Given (has k.store) k.state k.path k.list first rows at (Entry spot)
+      met : (k : Held has start first) → Given (has k.store) k.state k.path k.list first rows at (Some spot)
       met k = turn k.store k.state k.shows k.path k.list k.begins
 
       pub fill-room : Held has start first → at + 7 ≤ length rows
@@ -149,7 +148,7 @@ module _ (has : Store → Store) (start : Step) (first : List ℤ) where
             let b = (met k).next in
             size_low (has k.store) k.state k.shows _ (stat_from x) (told k.store k.state k.shows (k.path ++ (b.name ∷ [])) b.at)
 
-        pub fill-next : (after : List ℤ) → length after ≡ length first → after ≡ take at rows ++ (stat_numbers (stat_from x) ++ drop (at + 7) rows) → (r : Step)
+        pub fill-next : (after : List ℤ) → length after ≡ length first → after ≡ take at rows ++ (stat_numbers (stat_from x) ++ drop (at + 7) rows) → (r : Option Spot)
             → ((st : Store) (s : State) → Shows (has st) s → (p : Path) (n : Name) → Stands (has st) spot (p ++ (n ∷ [])) → StepIs (has st) s p (rest (has st) p spot) r)
             → Filling has start first after (at + 7) r
         fill-next after long w r n = record {

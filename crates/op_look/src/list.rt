@@ -12,7 +12,6 @@ ghost use Rattle.op.specs.Testing.{PathIn};
 ghost use Rattle.op_look.specs.Rows.{SomeRows, RowsPut};
 
 use ask_find::Spot;
-use ask_list::Step;
 use op::at::leads;
 use op::record::{NUMBERS, put_record};
 use walk::leads::Led;
@@ -34,10 +33,10 @@ fn put_records(
     let mut step = store::listing::first(words, records, spot);
     loop {
         match step {
-            Step::End => {
+            None => {
                 return;
             }
-            Step::Entry(entry) => {
+            Some(entry) => {
                 let s = store::stat(words, records, heads, times, entry);
                 put_record(rows, at, s);
                 at += NUMBERS;

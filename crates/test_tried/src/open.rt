@@ -10,7 +10,7 @@ ghost use Rattle.ask_find.specs.Paths.{path_at};
 
 use crate::asked::ready;
 use crate::place::is_dir;
-use ask_find::{Look, Spot};
+use ask_find::Spot;
 use layout::{CELL_BYTES, COUNT_AT, EXTENT_AT, FILE_NUMBERS, HOLDER_AT, NUMBER_WORDS};
 use path::pieces::piece_end;
 
@@ -38,8 +38,8 @@ fn child(
     }
     let off = records::names_to(records, dir);
     match ask_find::child(records, bytes, count, Spot { at: dir, off }, name, count) {
-        Look::Found(s) => s.at,
-        Look::Missing(g) => count,
+        Ok(s) => s.at,
+        Err(_) => count,
     }
 }
 

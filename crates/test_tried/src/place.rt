@@ -9,7 +9,7 @@ ghost use Rattle.ask_find.specs.Paths.{slot_at};
 ghost use Rattle.edit_entry.specs.Insertion.{Vacancy, Holds, Insertable};
 ghost use Rattle.test_tried.specs.Tried.{Spotted};
 
-use ask_find::{Gap, Look, Spot};
+use ask_find::{Gap, Spot};
 use layout::{COUNT_AT, MOST_BYTES};
 
 const MOST: usize = MOST_BYTES as usize;
@@ -81,8 +81,8 @@ pub fn spot_in(
     let count = words[COUNT_AT] as usize;
     let off = records::names_to(records, dir);
     match ask_find::child(records, bytes, count, Spot { at: dir, off }, name, count) {
-        Look::Found(s) => nowhere(),
-        Look::Missing(g) => g,
+        Ok(_) => nowhere(),
+        Err(g) => g,
     }
 }
 

@@ -8,7 +8,9 @@ use borrow.Author.Tests.{not-false}
 use Rattle.layout.specs.Store.{lent, count, kind_at, state}
 use Rattle.ask_find.specs.Paths.{slot_at, path_at}
 use Rattle.ask_find.specs.Spots.{nothing, Looks}
-use Rattle.ask_find.specs.declared.Look.{Look}
+use Rattle.std.specs.Prelude.{Result}
+use Rattle.ask_find.specs.declared.Spot.{Spot}
+use Rattle.ask_find.specs.declared.Gap.{Gap}
 use Rattle.ask_find.proofs.Children.{dir-told}
 use Rattle.test_tried.proofs.Spots.{at_record, spotted}
 use Rattle.test_tried.proofs.place.spot_in.Goals.{Else-not-is_dir}
@@ -32,16 +34,16 @@ child-requires c =
     let s = c in
     record { store = (lent c.args.words.now c.args.records.now c.args.heads.now c.args.times.now c.args.paths.now c.args.bytes.now); path = path_at ((lent c.args.words.now c.args.records.now c.args.heads.now c.args.times.now c.args.paths.now c.args.bytes.now)) s.args.dir; records = refl; bytes = refl; counted = refl; lawful = s.requires; at = at_record ((lent c.args.words.now c.args.records.now c.args.heads.now c.args.times.now c.args.paths.now c.args.bytes.now)) s.args.dir c.names_to-off.result (dir-is (goal.at.child-requires c).Else-not-is_dir).0 c.names_to-off.ensures }
 
-pub returns-in-Found : goal.returns-in-Found
-returns-in-Found c = λ h. absurd (h c.nowhere-in-Found.ensures)
+pub returns-in-Ok : goal.returns-in-Ok
+returns-in-Ok c = λ h. absurd (h c.nowhere-in-Ok.ensures)
 
-pub returns-in-Missing : goal.returns-in-Missing
-returns-in-Missing c =
+pub returns-in-Err : goal.returns-in-Err
+returns-in-Err c =
     λ h. let s = c in
     let st = (lent c.args.words.now c.args.records.now c.args.heads.now c.args.times.now c.args.paths.now c.args.bytes.now) in
     let q = path_at st s.args.dir in
-    let d = dir-is (goal.at.returns-in-Missing c).Else-not-is_dir in
+    let d = dir-is (goal.at.returns-in-Err c).Else-not-is_dir in
     let a = at_record st s.args.dir c.names_to-off.result d.0 c.names_to-off.ensures in
-    let v = subst (λ (r : Look). Looks st (count st) (state st).tree q s.args.name.now r) c.in-Missing.is
+    let v = subst (λ (r : Result Spot Gap). Looks st (count st) (state st).tree q s.args.name.now r) c.in-Err.is
     (c.child.ensures st refl refl refl s.requires q (state st).tree a (nothing (le_refl (count st)) refl) (dir-told st s.requires s.args.dir d.0 d.1)) in
     spotted st s.requires s.args.dir d.0 s.args.name.now (c.name_ok.ensures (not-false c.name_ok.result c.if-not-name_ok.false-raw)) _ v.0 v.1
