@@ -5,17 +5,12 @@ ghost use Rattle.layout.specs.Slots.{total};
 ghost use Rattle.slots.specs.Free.{HasFree};
 ghost use Rattle.edit_entry.specs.Filling.{Filled};
 
-use slots::Slot;
-
 // The lowest free slot.
 pub fn vacant_slot(heads: &[u64]) -> usize
     requires { HasFree heads.now }
     ensures { (result < length heads.now) × (get_or heads.now result 0 ≡ 0) }
 {
-    match slots::free_slot(heads) {
-        Slot::At(s) => s,
-        Slot::Full => 0,
-    }
+    slots::free_slot(heads).unwrap()
 }
 
 // A free slot becomes a new entry's, which has one time for all four.

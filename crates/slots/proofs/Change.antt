@@ -6,7 +6,7 @@ use mathlib.Core.List.{List, [], ◌++◌, append_assoc, append-nil}
 use Prim.Native.Nat.{ℕ, suc, ◌+◌, ◌-◌, ◌≤◌, ◌<◌}
 use native.Mathlib.Omega.{arith}
 use lib.ListN.{length, take, drop, get_or, set, replicate, length-append, length-take, length-drop, length-set, length-replicate, take-append-drop}
-use lib.Seq.{paste, set-get_or, get_or-set_same, set-set, length-take-le, take_at, drop_at, take-append-le, take-take, take_all, take-length}
+use lib.Seq.{paste, set-get_or, get_or-set_same, set-set, length-take-le, take_at, drop_at, take-append-le, take-take, drop-drop, take_all, take-length}
 use Rattle.blocks.specs.Moved.{moved}
 use Rattle.blocks.proofs.Cuts.{down, up}
 use Rattle.layout.specs.Fields.{len_of}
@@ -72,7 +72,7 @@ length-fitted n c = length-append (take n c) (replicate (n - length c) 0) ∙ om
 
 -- the blocks before the slot and the part of its own that stays, moved up over the rest of its own
 pub cut-put : (hs bs bs' : List ℕ) (k n all b : ℕ) → total hs ≤ length bs → k < length hs → n < len_of (get_or hs k 0)
-    → all ≡ total (take (length hs) hs) → b ≡ total (take k hs)
+    → all ≡ total hs → b ≡ total (take k hs)
     → bs' ≡ moved bs (length bs - all) (length bs - all + (len_of (get_or hs k 0) - n)) (length bs - all + b + n - (length bs - all))
     → length bs' ≡ length bs → Put hs bs (set hs k (with_len (get_or hs k 0) n)) bs' k n (fitted n (get_or (contents hs bs) k []))
 cut-put hs bs bs' k n all b ht hk hn ea eb e el =
@@ -89,7 +89,7 @@ cut-put hs bs bs' k n all b ht hk hn ea eb e el =
     let l_p : length P ≡ s = front hs bs ht in
     let lt : length (take n x) ≡ n = length-take-le n x (omega arith) in
     let l_m : length M ≡ b + n = length-append X (take n x) ∙ omega arith in
-    let all-is : all ≡ total hs = ea ∙ ap total (take-length hs) in
+    let all-is : all ≡ total hs = ea in
     let e₀ : length bs - all ≡ s = omega arith in
     let e₁ : length bs - all + b + n - (length bs - all) ≡ b + n = omega arith in
     let shape : bs ≡ P ++ (M ++ (drop n x ++ Z)) =
@@ -125,12 +125,13 @@ num₅ : (s m n o : ℕ) → o ≤ n → m ≤ s → m + n ≤ s + o → m ≤ s
 num₅ s m n o h i j = omega arith
 
 -- the blocks before the slot and its own, moved down over what stands in front, and zeros behind them
-pub grow-put : (hs bs bs₁ bs' : List ℕ) (k n all b : ℕ) → total hs ≤ length bs → k < length hs → len_of (get_or hs k 0) ≤ n → n < 16777216 → total hs + n ≤ length bs + len_of (get_or hs k 0)
-    → all ≡ total (take (length hs) hs) → b ≡ total (take k hs)
+pub grow-put : (hs bs bs₁ z bs' : List ℕ) (k n all b : ℕ) → total hs ≤ length bs → k < length hs → len_of (get_or hs k 0) ≤ n → n < 16777216 → total hs + n ≤ length bs + len_of (get_or hs k 0)
+    → all ≡ total hs → b ≡ total (take k hs)
     → bs₁ ≡ moved bs (length bs - all - (n - len_of (get_or hs k 0)) + (n - len_of (get_or hs k 0))) (length bs - all - (n - len_of (get_or hs k 0))) (length bs - all + b + len_of (get_or hs k 0) - (length bs - all - (n - len_of (get_or hs k 0)) + (n - len_of (get_or hs k 0))))
-    → bs' ≡ take (length bs - all + b + len_of (get_or hs k 0) - (n - len_of (get_or hs k 0))) bs₁ ++ (replicate (length bs - all + b + len_of (get_or hs k 0) - (length bs - all + b + len_of (get_or hs k 0) - (n - len_of (get_or hs k 0)))) 0 ++ drop (length bs - all + b + len_of (get_or hs k 0)) bs₁)
-    → length bs' ≡ length bs → Put hs bs (set hs k (with_len (get_or hs k 0) n)) bs' k n (fitted n (get_or (contents hs bs) k []))
-grow-put hs bs bs₁ bs' k n all b ht hk ho hn hr ea eb e f el =
+    → z ≡ replicate (length (take (length bs - all + b + len_of (get_or hs k 0) - (length bs - all + b + len_of (get_or hs k 0) - (n - len_of (get_or hs k 0)))) (drop (length bs - all + b + len_of (get_or hs k 0) - (n - len_of (get_or hs k 0))) bs₁))) 0
+    → bs' ≡ take (length bs - all + b + len_of (get_or hs k 0) - (n - len_of (get_or hs k 0))) bs₁ ++ (z ++ drop (length bs - all + b + len_of (get_or hs k 0) - (length bs - all + b + len_of (get_or hs k 0) - (n - len_of (get_or hs k 0)))) (drop (length bs - all + b + len_of (get_or hs k 0) - (n - len_of (get_or hs k 0))) bs₁))
+    → Put hs bs (set hs k (with_len (get_or hs k 0) n)) bs' k n (fitted n (get_or (contents hs bs) k []))
+grow-put hs bs bs₁ z bs' k n all b ht hk ho hn hr ea eb e ez f =
     let s : ℕ = start hs bs in
     let P : List ℕ = take (start hs bs) bs in
     let X : List ℕ = join (take k (contents hs bs)) in
@@ -149,7 +150,7 @@ grow-put hs bs bs₁ bs' k n all b ht hk ho hn hr ea eb e f el =
     let l_g : length G ≡ g = length-drop (s - g) P ∙ omega arith in
     let l_m : length M ≡ b + old = length-append X x ∙ omega arith in
     let l_w : length W ≡ g = length-drop (b + old) (G ++ M) ∙ omega (arith, length-append G M) in
-    let all-is : all ≡ total hs = ea ∙ ap total (take-length hs) in
+    let all-is : all ≡ total hs = ea in
     let e₀ : length bs - all ≡ s = omega arith in
     let gs : g ≤ s = num₀ (length bs) (total hs) n old ho ht hr in
     let e₁ : length bs - all + b + old - (length bs - all - g + g) ≡ b + old = ap (λ (t : ℕ). t + b + old - (t - g + g)) e₀ ∙ num₁ s g b old gs in
@@ -168,11 +169,22 @@ grow-put hs bs bs₁ bs' k n all b ht hk ho hn hr ea eb e f el =
     let lp_m : length (p ++ M) ≡ s - g + (b + old) = length-append p M ∙ omega arith in
     let low : take (length bs - all + b + old - g) bs₁ ≡ p ++ M =
     (λ i. take (e₃ i) ((after ∙ group) i)) ∙ take_at (p ++ M) (W ++ Z) (s - g + (b + old)) lp_m in
-    let high : drop (length bs - all + b + old) bs₁ ≡ Z =
+    let high : drop (length bs - all + b + len_of (get_or hs k 0)) bs₁ ≡ Z =
     (λ i. drop (e₂ i) ((after ∙ group ∙ sym (append_assoc (p ++ M) W Z)) i)) ∙ drop_at ((p ++ M) ++ W) Z (s - g + (b + old) + g) (length-append (p ++ M) W ∙ omega arith) in
     let zs : List ℕ = replicate g 0 in
+    let part : ℕ → ℕ → List ℕ = λ a m. take m (drop a bs₁) in
+    let back : s - g + (b + old) + g ≡ length bs - all + b + old = sym e₂ in
+    let long₁ : length bs₁ ≡ s - g + (b + old) + g + length Z = ap length (after ∙ group ∙ sym (append_assoc (p ++ M) W Z)) ∙ length-append ((p ++ M) ++ W) Z ∙ omega (arith, length-append (p ++ M) W) in
+    let many : length (take g (drop (s - g + (b + old)) bs₁)) ≡ g = length-take-le g (drop (s - g + (b + old)) bs₁) (omega (arith, length-drop (s - g + (b + old)) bs₁)) in
+    let zeros : z ≡ zs = ez ∙ (λ i. replicate (length (part (e₃ i) (e₄ i))) 0) ∙ ap (λ (m : ℕ). replicate m 0) many in
+    let rest : drop (length bs - all + b + len_of (get_or hs k 0) - (length bs - all + b + len_of (get_or hs k 0) - (n - len_of (get_or hs k 0)))) (drop (length bs - all + b + len_of (get_or hs k 0) - (n - len_of (get_or hs k 0))) bs₁) ≡ Z =
+    (λ i. drop (e₄ i) (drop (e₃ i) bs₁)) ∙ drop-drop g (s - g + (b + old)) bs₁ ∙ ap (λ (m : ℕ). drop m bs₁) back ∙ high in
     let end : bs' ≡ p ++ (M ++ (zs ++ Z)) =
-    f ∙ (λ i. low i ++ (replicate (e₄ i) 0 ++ high i)) ∙ append_assoc p M (zs ++ Z) in
+    f ∙ (λ i. low i ++ (zeros i ++ rest i)) ∙ append_assoc p M (zs ++ Z) in
+    let el : length bs' ≡ length bs =
+    let new : length bs' ≡ length p + (length M + (length zs + length Z)) = ap length end ∙ simp length-append in
+    let was : length bs ≡ length p + (length G + (length M + length Z)) = ap length shape ∙ simp length-append in
+    omega (arith, length-replicate {A = ℕ} g 0) in
     let le : n - length x ≡ g = ap (λ (t : ℕ). n - t) lx in
     let fx : fitted n x ≡ x ++ zs = fit-long n x (subst (λ (t : ℕ). t ≤ n) (sym lx) ho) ∙ ap (λ (m : ℕ). x ++ replicate m 0) le in
     put hs bs ht k hk n (fitted n x) p bs' hn (length-fitted n x)
@@ -189,7 +201,7 @@ put-len hs bs hs' bs' k n x p hk hn =
 
 -- text put over bytes of its length
 pub write-put : (hs bs hs₁ bs₁ bs' : List ℕ) (k n all b : ℕ) (x d : List ℕ) → total hs ≤ length bs → k < length hs → length d ≡ n → n < 16777216 → total hs + n ≤ length bs + len_of (get_or hs k 0)
-    → Put hs bs hs₁ bs₁ k n x → all ≡ total (take (length hs₁) hs₁) → b ≡ total (take k hs₁)
+    → Put hs bs hs₁ bs₁ k n x → all ≡ total hs₁ → b ≡ total (take k hs₁)
     → bs' ≡ paste bs₁ (length bs₁ - all + b) d (length d) → length bs' ≡ length bs₁ → Put hs bs hs₁ bs' k n d
 write-put hs bs hs₁ bs₁ bs' k n all b x d ht hk hd hn hr p ea eb e el =
     let ro = p.room in
@@ -206,7 +218,7 @@ write-put hs bs hs₁ bs₁ bs' k n all b x d ht hk hd hn hr p ea eb e el =
     let l_x : length X ≡ total (take k hs₁) = before hs₁ bs₁ ht₁ k hk₁ in
     let l_p : length P ≡ start hs₁ bs₁ = front hs₁ bs₁ ht₁ in
     let at : ℕ = length bs₁ - all + b in
-    let all-is : all ≡ total hs₁ = ea ∙ ap total (take-length hs₁) in
+    let all-is : all ≡ total hs₁ = ea in
     let l_pX : length (P ++ X) ≡ at = length-append P X ∙ omega arith in
     let shape : bs₁ ≡ (P ++ X) ++ (c ++ Z) = apart hs₁ bs₁ ht₁ k hk₁ ∙ sym (append_assoc P X (c ++ Z)) in
     let low : take at bs₁ ≡ P ++ X = ap (take at) shape ∙ take_at (P ++ X) (c ++ Z) at l_pX in

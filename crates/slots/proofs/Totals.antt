@@ -1,8 +1,9 @@
 -- How many bytes the slots have: the sum is taken apart at a slot, so a change of one word changes one summand.
 -- Assumes nothing.
-use mathlib.Core.Path.{◌≡◌, ap}
+use mathlib.Core.Path.{◌≡◌, sym, ap}
 use mathlib.Core.List.{List, [], ◌∷◌}
 use Prim.Native.Nat.{ℕ, zero, suc, ◌+◌, ◌≤◌, ◌<◌}
+use native.Mathlib.Numerals.{add-one}
 use native.Mathlib.Omega.{arith}
 use lib.ListN.{length, take, drop, get_or, set}
 use lib.Seq.{take-length}
@@ -27,11 +28,19 @@ total-take [] i h = absurd (omega arith)
 total-take (x ∷ hs) zero h = omega arith
 total-take (x ∷ hs) (suc i) h = let r = total-take hs i (omega arith) in omega arith
 
-pub take-total : (hs : List ℕ) (i : ℕ) → total (take i hs) ≤ total hs
+pub take_total : (hs : List ℕ) (i : ℕ) → total (take i hs) ≤ total hs
 unfolding total
-take-total hs zero = omega arith
-take-total [] (suc i) = omega arith
-take-total (x ∷ hs) (suc i) = let r = take-total hs i in omega arith
+take_total hs zero = omega arith
+take_total [] (suc i) = omega arith
+take_total (x ∷ hs) (suc i) = let r = take_total hs i in omega arith
+
+-- those before a slot, its own, and those behind it
+pub total_at : (hs : List ℕ) (k : ℕ) → k < length hs → total (take k hs) + (len_of (get_or hs k 0) + total (drop (suc k) hs)) ≡ total hs
+total_at hs k l = sym (total-split hs k l)
+
+-- a turn of the loop that adds them up
+pub total_more : (hs : List ℕ) (i h : ℕ) → i < length hs → h ≡ get_or hs i 0 → total (take (i + 1) hs) ≡ total (take i hs) + len_of h
+total_more hs i h l e = rw (e, add-one i) (total-take hs i l)
 
 -- what `sum_to` answers for all slots and for the first k, beside the whole
 pub sums : (hs : List ℕ) (k : ℕ) → k < length hs

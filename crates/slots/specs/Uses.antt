@@ -1,6 +1,7 @@
 -- Who uses a slot: the records that name it, and the file numbers that stand on it.
 -- Assumes nothing.
-use Rattle.std.specs.Prelude.{Bool, true, false, ◌||◌, cond, List, [], ◌∷◌, ◌≡◌, ℕ, zero, suc, ◌+◌, ◌≤◌, ◌<◌, eqb, length, get_or}
+use Rattle.std.specs.Prelude.{Bool, true, false, ◌||◌, cond, List, [], ◌∷◌, ◌≡◌, ℕ, zero, suc, ◌+◌, ◌≤◌, ◌<◌, ◌==◌, eqb, length, get_or}
+use Rattle.std.specs.List.{list_any}
 use Rattle.layout.specs.Numbers.{file_numbers, most_slots, holder_at}
 use Rattle.layout.specs.Fields.{slot_of}
 
@@ -28,6 +29,5 @@ MarkedBy ws marks true = (k : ℕ) → (get_or marks k 0 ≡ uses_in k ws) × (u
 MarkedBy ws marks false = (i : ℕ) × (i < length ws) × (2 ≤ uses_in (slot_of (get_or ws i 0)) ws)
 
 -- one of the words of the records has the slot
-unfoldable pub is_used : ℕ → List ℕ → Bool
-is_used k [] = false
-is_used k (w ∷ ws) = eqb (slot_of w) k || is_used k ws
+abbrev pub is_used : ℕ → List ℕ → Bool
+is_used k ws = list_any (λ w. slot_of w == k) ws

@@ -8,65 +8,49 @@ ghost use Rattle.slots.specs.Free.{free_from};
 ghost use Rattle.slots.specs.Times.{times_set};
 ghost use Rattle.slots.specs.Put.{fitted, swept, swept_c, Put, Freed, Step};
 
-use layout::LENGTHS;
+use layout::len_of;
 
 pub mod marks;
 
-#[derive(Drop)]
-pub enum Slot {
-    At(usize),
-    Full,
-}
-
 // The lowest slot not in use.
-pub fn free_slot(heads: &[u64]) -> Slot
+pub fn free_slot(heads: &[u64]) -> Option<usize>
     ensures { result ≡ free_from heads.now 0 }
 {
-    let mut i = 0;
-    while i < heads.len() {
-        if heads[i] == 0 {
-            return Slot::At(i);
-        }
-        i += 1;
-    }
-    Slot::Full
+    heads.iter().position(|h| *h == 0)
 }
 
-// The bytes of the first k slots.
-pub fn sum_to(heads: &[u64], k: usize) -> usize
-    requires { (k ≤ length heads.now) × (total heads.now < 2 ^ 64) }
-    ensures { result ≡ total (take k heads.now) }
+// The bytes of the slots.
+#[tactic(auto, using(crate::proofs::Totals::total_more), unfolding(layout::specs::Slots::total))]
+pub fn total_of(heads: &[u64]) -> usize
+    requires { total heads.now < 2 ^ 64 }
+    ensures { result ≡ total heads.now }
 {
-    let mut i = 0;
-    let mut t: usize = 0;
-    while i < k {
-        t += (heads[i] % LENGTHS) as usize;
-        i += 1;
+    let mut t = 0;
+    for h in heads {
+        t += len_of(*h);
     }
     t
 }
 
-// Zeros from a up to e.
-fn zeros(s: &mut [u8], a: usize, e: usize)
-    requires { (a ≤ e) × (e ≤ length s.old) }
-    ensures { s.new ≡ take a s.old ++ (replicate (e - a) 0 ++ drop e s.old) }
+// The bytes of the first k slots.
+#[tactic(auto, using(crate::proofs::Totals::take_total))]
+pub fn sum_to(heads: &[u64], k: usize) -> usize
+    requires { (k ≤ length heads.now) × (total heads.now < 2 ^ 64) }
+    ensures { result ≡ total (take k heads.now) }
 {
-    let mut j = a;
-    while j < e {
-        s[j] = 0;
-        j += 1;
-    }
+    total_of(&heads[..k])
 }
 
 // Cuts the bytes of slot k to n, or extends them by zeros. What stands in front of them moves; what stands behind stays.
+#[tactic(auto, using(crate::proofs::Totals::total_at))]
 pub fn resize(heads: &mut [u64], bytes: &mut [u8], k: usize, n: usize)
     requires { (k < length heads.old) × (n < lengths) × (total heads.old ≤ length bytes.old)
         × (total heads.old + n ≤ length bytes.old + len_of (get_or heads.old k 0)) }
     ensures { Put heads.old bytes.old heads.new bytes.new k n (fitted n (get_or (contents heads.old bytes.old) k [])) }
 {
     let h = heads[k];
-    let old = (h % LENGTHS) as usize;
-    let all = sum_to(heads, heads.len());
+    let old = len_of(h);
+    let all = total_of(heads);
     let before = sum_to(heads, k);
     let from = bytes.len() - all;
     heads[k] = h - old as u64 + n as u64;
@@ -77,10 +61,11 @@ pub fn resize(heads: &mut [u64], bytes: &mut [u8], k: usize, n: usize)
     let end = from + before + old;
     let g = n - old;
     blocks::close_gap(bytes, end, from - g, g);
-    zeros(bytes, end - g, end);
+    bytes[end - g..end].fill(0);
 }
 
 // Puts text as the bytes of slot k.
+#[tactic(auto, using(crate::proofs::Totals::total_at))]
 pub fn write(heads: &mut [u64], bytes: &mut [u8], k: usize, text: &[u8])
     requires { (k < length heads.old) × (length text.now < lengths) × (total heads.old ≤ length bytes.old)
         × (total heads.old + length text.now ≤ length bytes.old + len_of (get_or heads.old k 0)) }
@@ -88,7 +73,7 @@ pub fn write(heads: &mut [u64], bytes: &mut [u8], k: usize, text: &[u8])
 {
     let n = text.len();
     resize(heads, bytes, k, n);
-    let all = sum_to(heads, heads.len());
+    let all = total_of(heads);
     let before = sum_to(heads, k);
     let at = bytes.len() - all + before;
     blocks::copy_into(bytes, at, text);
@@ -119,7 +104,7 @@ fn sweep_step(
         heads[i] = 0;
         return dst;
     }
-    let len = (heads[i] % LENGTHS) as usize;
+    let len = len_of(heads[i]);
     blocks::open_gap(bytes, src, src - len, dst - src);
     dst - len
 }
@@ -129,15 +114,12 @@ pub fn sweep(heads: &mut [u64], bytes: &mut [u8], marks: &[u8])
     requires { (length marks.now ≡ length heads.old) × (total heads.old ≤ length bytes.old) }
     ensures { Freed heads.old bytes.old heads.new bytes.new (swept marks.now heads.old) (swept_c marks.now (contents heads.old bytes.old)) }
 {
-    let mut i = heads.len();
     let mut src = bytes.len();
     let mut dst = bytes.len();
-    while 0 < i {
-        let k = i - 1;
-        let len = (heads[k] % LENGTHS) as usize;
+    for k in (0..heads.len()).rev() {
+        let len = len_of(heads[k]);
         dst = sweep_step(heads, bytes, k, marks[k], src, dst);
         src -= len;
-        i = k;
     }
 }
 

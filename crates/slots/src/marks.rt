@@ -5,21 +5,19 @@ ghost use Rattle.layout.specs.Store.{lent};
 ghost use Rattle.layout.specs.Lawful.{held_from};
 ghost use Rattle.slots.specs.Uses.{stands_from, Within, Standing, MarkedBy, is_used};
 
-use layout::{FILE_NUMBERS, HOLDER_AT, MOST_SLOTS, NUMBER_WORDS, SLOT_UNIT};
+use layout::{FILE_NUMBERS, HOLDER_AT, MOST_SLOTS, NUMBER_WORDS, slot_of};
 
 // Marks the slot of each record; false where one is marked already.
 pub fn mark_records(recs: &[u64], marks: &mut [u8; MOST_SLOTS]) -> bool
     requires { Within most_slots recs.now × (length marks.old ≡ most_slots) × ((k : ℕ) → get_or marks.old k 0 ≡ 0) }
     ensures { MarkedBy recs.now marks.new result × (length marks.new ≡ most_slots) }
 {
-    let mut i = 0;
-    while i < recs.len() {
-        let s = (recs[i] / SLOT_UNIT) as usize;
+    for w in recs {
+        let s = slot_of(*w);
         if marks[s] != 0 {
             return false;
         }
         marks[s] = 1;
-        i += 1;
     }
     true
 }
@@ -32,10 +30,8 @@ pub fn mark_numbers(words: &[u64], marks: &mut [u8; MOST_SLOTS])
         ≡ get_or marks.old k 0 + cond (stands_from words.now file_numbers 0 k) 2 0)
         × (length marks.new ≡ most_slots) }
 {
-    let mut j: usize = 0;
-    while j < FILE_NUMBERS {
+    for j in 0..FILE_NUMBERS {
         let h = words[HOLDER_AT + NUMBER_WORDS * j] as usize;
-        j += 1;
         if h == 0 {
             continue;
         }
@@ -48,31 +44,28 @@ pub fn mark_numbers(words: &[u64], marks: &mut [u8; MOST_SLOTS])
     }
 }
 
-// Whether a number has the word h: one more than the slot that it stands on.
+// Whether a number has the word h: one more than the slot that it stands on. Every number is looked at, so that the compiler tests many at
+// a time.
+#[tactic(auto, using(crate::proofs::Seeking::held_more), unfolding(layout::specs::Lawful::held_from))]
 pub fn is_held(words: &[u64], h: u64) -> bool
     requires { (length words.now ≡ word_count) × (0 < h) }
     ensures { result ≡ held_from (lent words.now [] [] [] [] []) file_numbers 0 (h - 1) }
 {
     let mut held = false;
-    let mut i: usize = FILE_NUMBERS;
-    while 0 < i {
-        i -= 1;
-        held = (words[HOLDER_AT + NUMBER_WORDS * i] == h) | held;
+    for i in 0..FILE_NUMBERS {
+        held |= words[HOLDER_AT + NUMBER_WORDS * i] == h;
     }
     held
 }
 
-// Whether one of the first n records has the slot.
+// Whether one of the first n records has the slot. Every one is looked at, as above.
 pub fn is_used(records: &[u64], n: usize, slot: usize) -> bool
     requires { n ≤ length records.now }
     ensures { result ≡ is_used slot (take n records.now) }
 {
-    let k = slot as u64;
     let mut used = false;
-    let mut i = n;
-    while 0 < i {
-        i -= 1;
-        used = (records[i] / SLOT_UNIT == k) | used;
+    for w in &records[..n] {
+        used |= slot_of(*w) == slot;
     }
     used
 }

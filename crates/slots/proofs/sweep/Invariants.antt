@@ -1,12 +1,6 @@
--- `slots::sweep` meets its contract: the slots from i on are done, and what stands in front of src is untouched. Assumes nothing.
-use mathlib.Core.Path.{◌≡◌}
-use Prim.Native.Nat.{◌≤◌}
-use lib.ListN.{length}
+-- `slots::sweep` meets its contract: the slots from k on are done, and what stands in front of src is untouched. Assumes nothing.
 use Rattle.slots.proofs.Sweeps.{Sweeping}
 use Rattle.slots.proofs.sweep.Given as goal
 
-abbrev pub invariant-loop-i : goal.invariant-loop-i
-invariant-loop-i l = (l.i ≤ length l.initial.heads) × (length l.heads ≡ length l.initial.heads) × (length l.bytes ≡ length l.initial.bytes) × Sweeping l.initial.heads l.initial.bytes l.marks l.heads l.bytes l.i l.src l.dst
-
-abbrev pub decreases-loop-i : goal.decreases-loop-i
-decreases-loop-i l = l.i
+abbrev pub invariant-loop-k : goal.invariant-loop-k
+invariant-loop-k l = Sweeping l.initial.heads l.initial.bytes l.marks l.heads l.bytes l.k l.src l.dst

@@ -5,33 +5,21 @@ use native.Mathlib.Omega.{arith}
 use lib.ListN.{length, get_or}
 use Rattle.layout.specs.Slots.{contents}
 use Rattle.slots.specs.Put.{fitted}
-use Rattle.slots.proofs.Totals.{sums}
+use Rattle.slots.proofs.Totals.{total_at}
 use Rattle.slots.proofs.Change.{write-put, put-len}
 use Rattle.slots.proofs.write.Goals as goal
-
-pub overflow_sub-at : goal.overflow_sub-at
-overflow_sub-at c =
-    let z = c.resize in
-    omega (arith, sums z.new.heads c.args.k (omega (arith, z.auto)), z.ensures.room, z.auto)
-
-pub overflow_add-at : goal.overflow_add-at
-overflow_add-at c =
-    let z = c.resize in
-    omega (arith, sums z.new.heads c.args.k (omega (arith, z.auto)), z.ensures.room, z.auto)
 
 pub copy_into-requires : goal.copy_into-requires
 copy_into-requires c =
     let z = c.resize in
-    let b = c in
-    omega (arith, sums z.new.heads b.args.k (omega (arith, z.auto)), put-len _ _ _ _ _ _ _ z.ensures b.requires.0 b.requires.1, z.ensures.room, z.auto)
+    omega (arith, total_at z.new.heads c.args.k (omega (arith, z.auto)), put-len _ _ _ _ _ _ _ z.ensures c.requires.0 c.requires.1, z.ensures.room, z.auto)
 
 pub returns : goal.returns
 returns c =
-    let b = c in
-    let a = b.args in
-    let r = b.requires in
+    let a = c.args in
+    let r = c.requires in
     let z = c.resize in
-    let all = c.sum_to-all in
+    let all = c.total_of-all in
     let before = c.sum_to-before in
     let copy = c.copy_into in
     let x = fitted (length a.text.now) (get_or (contents a.heads.now a.bytes.now) a.k []) in
