@@ -2,8 +2,8 @@
 -- Assumes nothing.
 use mathlib.Core.Bool.{Bool, true, false, ◌&&◌, ◌||◌, not, or-false}
 use mathlib.Core.List.{[]}
-use mathlib.Core.Path.{◌≡◌, refl, sym, subst}
-use Prim.Native.Nat.{ℕ, zero, suc, ◌/◌, ◌≤◌, ◌<◌}
+use mathlib.Core.Path.{◌≡◌, ◌∙◌, refl, sym, subst}
+use Prim.Native.Nat.{ℕ, zero, suc, ◌≤◌, ◌<◌}
 use native.Mathlib.Omega.{arith}
 use lib.Dec.{T, eqb, eqb→eq}
 use borrow.Author.Tests.{eq-eqb, ne_eqb}
@@ -34,16 +34,18 @@ twice-wrong k h u held l t = go k t
     go (suc (suc (suc (suc k)))) t = t
 
 -- the test of the word of an entry's slot
-pub entry-word : (h : ℕ) → (eqb (kind_of h) 1 && eqb (len_of h) 0) || eqb (kind_of h / 2) 1 ≡ entry_word h
+pub entry-word : (h : ℕ) → ((eqb (kind_of h) 1 && eqb (len_of h) 0) || eqb (kind_of h) 2) || eqb (kind_of h) 3 ≡ entry_word h
 unfolding entry_word
 entry-word h = go (kind_of h)
   where
-    go : (k : ℕ) → (eqb k 1 && eqb (len_of h) 0) || eqb (k / 2) 1 ≡ entry_by k h
+    go : (k : ℕ) → ((eqb k 1 && eqb (len_of h) 0) || eqb k 2) || eqb k 3 ≡ entry_by k h
     go zero = refl
-    go (suc zero) = or-false (eqb (len_of h) 0)
+    go (suc zero) = or-false (eqb (len_of h) 0 || false) ∙ or-false (eqb (len_of h) 0)
     go (suc (suc zero)) = refl
     go (suc (suc (suc zero))) = refl
-    go (suc (suc (suc (suc k)))) = rw (ne_eqb (suc (suc (suc (suc k)))) 1 (λ e. omega arith), ne_eqb (suc (suc (suc (suc k))) / 2) 1 (λ e. omega arith))
+    go (suc (suc (suc (suc k)))) =
+        let n = suc (suc (suc (suc k))) in
+        rw (ne_eqb n 1 (λ e. omega arith), ne_eqb n 2 (λ e. omega arith), ne_eqb n 3 (λ e. omega arith))
 
 -- a word that is none of an entry's slot
 pub word-wrong : (h u : ℕ) (held : Bool) → entry_word h ≡ false → 1 ≤ u → T (slot_by (kind_of h) h u held []) → ⊥

@@ -10,6 +10,7 @@ use lib.Dec.{T, eqb, ltb}
 use lib.ListN.{length, take, get_or, set, get_or-eq_default}
 use lib.Seq.{get_or-set_same, get_or-set_other}
 use borrow.Author.Tests.{eq-eqb, ne_eqb, eqb-true, eqb-false, ltb-true, ltb-false}
+use Rattle.std.specs.Prelude.{Some, None}
 use Rattle.model.proofs.Entries.{is_false}
 use Rattle.layout.specs.Fields.{slot_of, kind_of}
 use Rattle.layout.specs.Lawful.{slot_by}
@@ -95,7 +96,7 @@ stands_at ws (suc n) i j k l h e = go (eqb (get_or ws (5 + 3 * i) 0) (suc k)) re
         later true p = absurd (eqb-false (get_or ws (5 + 3 * i) 0) (suc k) q (ap (λ (x : ℕ). get_or ws (5 + 3 * x) 0) (eqb-true i j p) ∙ e))
         later false p = omega (arith, eqb-false i j p)
 
-pub opened_none : (ws heads taken : List ℕ) → OpenedBy ws heads taken taken 0 0 true
+pub opened_none : (ws heads taken : List ℕ) → OpenedBy ws heads taken taken 0 (Some 0)
 unfolding stands_from
 opened_none ws heads taken = (λ k h. record { taken = refl; file = λ t. absurd t }, λ k h. refl, omega arith)
 
@@ -104,21 +105,21 @@ module _ (ws heads t₀ t : List ℕ) (j n : ℕ) where
   number = get_or ws (5 + 3 * j) 0
 
   -- a number that stands on no file
-  pub opened-wrong : j < 32 → 0 < number → number ≤ length heads → (kind_of (get_or heads (number - 1) 0) ≡ 2 → ⊥) → OpenedBy ws heads t₀ t 32 n false
+  pub opened-wrong : j < 32 → 0 < number → number ≤ length heads → (kind_of (get_or heads (number - 1) 0) ≡ 2 → ⊥) → OpenedBy ws heads t₀ t 32 None
   opened-wrong h p l f recs right =
       let k = number - 1 in
       let e : stands_from ws 32 0 k ≡ true = stands_at ws 32 0 j k (omega arith) (omega arith) (omega arith) in
       number-wrong (get_or heads k 0) (uses_in k recs) f (subst (λ (b : Bool). T (slot_by (kind_of (get_or heads k 0)) (get_or heads k 0) (uses_in k recs) b [])) e (right k (omega arith)))
 
-  module _ (w : OpenedBy ws heads t₀ t j n true) where
+  module _ (w : OpenedBy ws heads t₀ t j (Some n)) where
     -- a number that stands on no slot
     other : (k : ℕ) → k < length heads → eqb number (suc k) ≡ false → Opened (stands_from ws (j + 1) 0 k) (get_or heads k 0) (get_or t₀ k 0) (get_or t k 0)
     other k h e = subst (λ (b : Bool). Opened b (get_or heads k 0) (get_or t₀ k 0) (get_or t k 0)) (sym (stands_next ws j k false e ∙ or-false (stands_from ws j 0 k))) (w.0 k h)
 
-    pub opened-closed : number ≡ 0 → OpenedBy ws heads t₀ t (j + 1) n true
+    pub opened-closed : number ≡ 0 → OpenedBy ws heads t₀ t (j + 1) (Some n)
     opened-closed z = (λ k h. other k h (ne_eqb number (suc k) (λ e. omega arith)), w.1, w.2)
 
-    pub opened-far : length heads < number → OpenedBy ws heads t₀ t (j + 1) n true
+    pub opened-far : length heads < number → OpenedBy ws heads t₀ t (j + 1) (Some n)
     opened-far l = (λ k h. other k h (ne_eqb number (suc k) (λ e. omega arith)), w.1, w.2)
 
     module _ (p : 0 < number) (l : number ≤ length heads) (f : kind_of (get_or heads (number - 1) 0) ≡ 2) where
@@ -130,7 +131,7 @@ module _ (ws heads t₀ t : List ℕ) (j n : ℕ) where
       here k m e q = subst (λ (b : Bool). Opened b (get_or heads k 0) (get_or t₀ k 0) m) (sym (stands_next ws j k true e ∙ or-true (stands_from ws j 0 k))) (record { taken = q; file = λ u. file k e })
 
       -- a slot that is taken already
-      pub opened-again : ((k : ℕ) → get_or t₀ k 0 ≤ 1) → (get_or t (number - 1) 0 ≡ 0 → ⊥) → OpenedBy ws heads t₀ t (j + 1) n true
+      pub opened-again : ((k : ℕ) → get_or t₀ k 0 ≤ 1) → (get_or t (number - 1) 0 ≡ 0 → ⊥) → OpenedBy ws heads t₀ t (j + 1) (Some n)
       opened-again few z = (λ k h. go k h (eqb number (suc k)) refl, w.1, w.2)
         where
           one : (b : Bool) (x y : ℕ) → x ≤ 1 → y ≡ cond b 1 x → (y ≡ 0 → ⊥) → y ≡ 1
@@ -144,7 +145,7 @@ module _ (ws heads t₀ t : List ℕ) (j n : ℕ) where
           go k h false e = other k h e
 
       -- one that is not
-      pub opened-more : number - 1 < length t → get_or t (number - 1) 0 ≡ 0 → OpenedBy ws heads t₀ (set t (number - 1) 1) (j + 1) (n + 1) true
+      pub opened-more : number - 1 < length t → get_or t (number - 1) 0 ≡ 0 → OpenedBy ws heads t₀ (set t (number - 1) 1) (j + 1) (Some (n + 1))
       opened-more i z = (λ k h. go k h (eqb number (suc k)) refl, λ k h. get_or-set_other t (number - 1) k 1 0 (λ e. omega arith) ∙ w.1 k h, omega (arith, filled-set t (number - 1) i z, w.2))
         where
           go : (k : ℕ) → k < length heads → (b : Bool) → eqb number (suc k) ≡ b → Opened (stands_from ws (j + 1) 0 k) (get_or heads k 0) (get_or t₀ k 0) (get_or (set t (number - 1) 1) k 0)
@@ -171,7 +172,7 @@ taken_none : (b : Bool) (x y : ℕ) → y ≡ cond b 1 x → y ≡ 0 → (b ≡ 
 taken_none true x y e z = absurd (omega arith)
 taken_none false x y e z = (refl, omega arith)
 
-module _ (ws recs heads t₁ t₂ : List ℕ) (n : ℕ) (within : Within (length heads) recs) (a : NamedBy recs heads t₁ true) (b : OpenedBy ws heads t₁ t₂ 32 n true) where
+module _ (ws recs heads t₁ t₂ : List ℕ) (n : ℕ) (within : Within (length heads) recs) (a : NamedBy recs heads t₁ true) (b : OpenedBy ws heads t₁ t₂ 32 (Some n)) where
   -- nothing takes it: no record, no number
   untaken : (k : ℕ) → k < length heads → uses_in k recs ≡ 0 → stands_from ws 32 0 k ≡ false → get_or t₂ k 0 ≡ 0
   untaken k h u e = (b.0 k h).taken ∙ ap (λ (t : Bool). cond t 1 (get_or t₁ k 0)) e ∙ (a.0 k).taken ∙ u

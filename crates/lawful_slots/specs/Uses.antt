@@ -1,6 +1,6 @@
 -- Slots that are right, by who uses them.
 -- Assumes nothing.
-use Rattle.std.specs.Prelude.{Bool, true, false, cond, List, [], ◌∷◌, ◌≡◌, ℕ, zero, suc, ◌+◌, ◌≤◌, ◌<◌, T, eqb, length, get_or}
+use Rattle.std.specs.Prelude.{Bool, true, false, not, cond, List, [], ◌≡◌, ℕ, zero, suc, ◌+◌, ◌≤◌, ◌<◌, T, eqb, length, get_or, count_by, Option, Some, None}
 use Rattle.layout.specs.Numbers.{file_numbers}
 use Rattle.layout.specs.Fields.{len_of, kind_of}
 use Rattle.layout.specs.Lawful.{slot_by}
@@ -13,9 +13,8 @@ SlotsRight ws recs heads = (k : ℕ) → k < length heads → T (slot_by (kind_o
 -- ---- slots that are taken
 
 -- the number of elements that are not 0
-unfoldable pub filled : List ℕ → ℕ
-filled [] = 0
-filled (x ∷ xs) = cond (eqb x 0) 0 1 + filled xs
+abbrev pub filled : List ℕ → ℕ
+filled xs = count_by (λ x. not (eqb x 0)) xs
 
 -- by its kind, a word that can be that of an entry's slot: a directory has no bytes
 abbrev pub entry_by : ℕ → ℕ → Bool
@@ -45,9 +44,9 @@ pub record Opened (held : Bool) (h t₀ t : ℕ) : Type 0 where
   pub taken : t ≡ cond held 1 t₀
   pub file : T held → kind_of h ≡ 2
 
--- true: the slots are taken too that one of the first j numbers stands on, n more than before; false: some slot is wrong, whoever
+-- Some n: the slots are taken too that one of the first j numbers stands on, n more than before; None: some slot is wrong, whoever
 -- names it
-abbrev pub OpenedBy : List ℕ → List ℕ → List ℕ → List ℕ → ℕ → ℕ → Bool → Type 0
-OpenedBy ws heads taken₀ taken j n true =
+abbrev pub OpenedBy : List ℕ → List ℕ → List ℕ → List ℕ → ℕ → Option ℕ → Type 0
+OpenedBy ws heads taken₀ taken j (Some n) =
     ((k : ℕ) → k < length heads → Opened (stands_from ws j 0 k) (get_or heads k 0) (get_or taken₀ k 0) (get_or taken k 0)) × ((k : ℕ) → length heads ≤ k → get_or taken k 0 ≡ get_or taken₀ k 0) × (filled taken ≡ filled taken₀ + n)
-OpenedBy ws heads taken₀ taken j n false = (recs : List ℕ) → SlotsRight ws recs heads → ⊥
+OpenedBy ws heads taken₀ taken j None = (recs : List ℕ) → SlotsRight ws recs heads → ⊥

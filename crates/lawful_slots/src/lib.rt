@@ -22,9 +22,8 @@ pub fn slots_ok(words: &[u64], recs: &[u64], heads: &[u64]) -> bool
     if !take_named(recs, heads, &mut taken) {
         return false;
     }
-    let open = take_open(words, heads, &mut taken);
-    if !open.files {
+    let Some(more) = take_open(words, heads, &mut taken) else {
         return false;
-    }
-    in_use(heads) == recs.len() + open.more
+    };
+    in_use(heads) == recs.len() + more
 }

@@ -4,4 +4,4 @@ use Rattle.lawful_slots.proofs.ByKind.{entry-word}
 use Rattle.lawful_slots.proofs.taken.entry_word.Goals as goal
 
 pub returns : goal.returns
-returns c = entry-word c.args.h
+returns c = rw (c.kind_of-kind.ensures, c.len_of.ensures, c.code.ensures, c.code-2.ensures, c.code-3.ensures) (entry-word c.args.h)
