@@ -1,3 +1,6 @@
 pub mod Behind
 pub mod Reached
 pub mod Rooted
+pub mod Passing
+pub mod Chains
+pub mod Leading

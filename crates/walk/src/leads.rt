@@ -54,11 +54,7 @@ pub fn find_directory(
 #[derive(Clone, Copy)]
 pub enum Last {
     Found(There),
-    Missing {
-        gap: Gap,
-        len: usize,
-        links: usize,
-    },
+    Missing { gap: Gap, len: usize, links: usize },
 }
 
 // The entry `name` of the directory to which the path in out[..len] leads, there or not; only that path is followed.

@@ -53,6 +53,7 @@ pub fn lookup_entry_detail_no_follow(
 {
     let mut n = len;
     let mut links = 0;
+    // kept: the 41st link is refused before its path is formed, so the count is tested within a turn, and a `for` would have to fail twice.
     loop {
         match lookup_entry_detail_until_symlink(tree, &out[..n], hidden)? {
             Met::Ends(end) => return Ok(Walked { end, len: n, links }),
@@ -61,9 +62,9 @@ pub fn lookup_entry_detail_no_follow(
                     return Err(Refusal::LinkLoop);
                 }
                 n = behind_link(tree, out, n, spot, dir, rest)?;
+                links += 1;
             }
         }
-        links += 1;
     }
 }
 
@@ -82,21 +83,38 @@ pub fn lookup_entry_detail(
     let mut left = bound;
     let mut n = len;
     let mut links = 0;
+    // kept: a last link is refused before its path is formed, so the count is tested within a turn, and a `for` would have to fail twice.
     loop {
         let w = lookup_entry_detail_no_follow(tree, out, n, hidden)?;
         let len = w.len;
         links += w.links;
         match w.end {
-            End::Found(spot, kind) => return Ok(Looked::Found(There { spot, kind, len, links })),
-            End::Missing(gap, upto) => return Ok(Looked::Missing(Absent { gap, upto, len, links })),
+            End::Found(spot, kind) => {
+                let there = There {
+                    spot,
+                    kind,
+                    len,
+                    links,
+                };
+                return Ok(Looked::Found(there));
+            }
+            End::Missing(gap, upto) => {
+                let absent = Absent {
+                    gap,
+                    upto,
+                    len,
+                    links,
+                };
+                return Ok(Looked::Missing(absent));
+            }
             End::LastLink(spot, dir) => {
                 if left == 0 {
                     return Err(Refusal::LinkLoop);
                 }
                 n = behind_link(tree, out, len, spot, dir, len)?;
+                left -= 1;
+                links += 1;
             }
         }
-        left -= 1;
-        links += 1;
     }
 }

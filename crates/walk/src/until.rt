@@ -34,7 +34,14 @@ pub fn lookup_entry_detail_until_symlink(
         }
         let a = e + 1;
         let b = piece_end(path, a);
-        spot = match store::child(tree.words, tree.records, tree.bytes, spot, &path[a..b], hidden) {
+        spot = match store::child(
+            tree.words,
+            tree.records,
+            tree.bytes,
+            spot,
+            &path[a..b],
+            hidden,
+        ) {
             Ok(s) => s,
             Err(g) => return Ok(Met::Ends(End::Missing(g, e))),
         };

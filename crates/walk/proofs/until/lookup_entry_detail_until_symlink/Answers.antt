@@ -8,13 +8,12 @@ use mathlib.Core.Path.{◌≡◌, ap, ◌∙◌}
 use Prim.Native.Nat.{ℕ, ◌+◌, ◌-◌}
 use native.Mathlib.Omega.{arith}
 use lib.ListN.{get_or}
-use Rattle.path.specs.Backward.{part}
 use Rattle.model.specs.Prog.{World, a_dir, aFile, a_link, kind?, answer}
 use Rattle.model.specs.Calls.States.{State}
 use Rattle.layout.specs.Kinds.{kind_from}
 use Rattle.layout.specs.Store.{Store}
 use Rattle.layout.specs.Lent.{with_tree}
-use Rattle.store.specs.Shows.{Shows, Asked, LookIs}
+use Rattle.store.specs.Shows.{Shows, Asked}
 use Rattle.walk.proofs.Reached.{Reached, kind-is, no_root, at-root, at-slash, at-file, at-link, at-gone, at_next, at-last-link, at_entry}
 use Rattle.walk.proofs.Rooted.{some_asked, never, root_there}
 use Rattle.walk.proofs.until.lookup_entry_detail_until_symlink.Goals.{At-loop-e, In-Directory}
