@@ -1,11 +1,12 @@
 -- What lies below an entry, record by record.
 -- Assumes nothing.
-use mathlib.Core.Path.{◌≡◌}
+use mathlib.Core.Path.{◌≡◌, refl}
 use mathlib.Core.Bool.{Bool, true, false}
 use mathlib.Core.List.{List, [], ◌∷◌}
 use Prim.Native.Nat.{ℕ, suc, ◌+◌, ◌≤◌, ◌<◌, zero-le}
 use native.Mathlib.Nat.{le_refl}
 use native.Mathlib.Omega.{arith}
+use native.Mathlib.Numerals.{add-one}
 use lib.Dec.{leb}
 use lib.ListN.{length, get_or}
 use borrow.Author.Tests.{le-leb, lt-leb}
@@ -16,6 +17,19 @@ use Rattle.ask_find.proofs.Reading.{from, from_at, from_end_lem, from_length}
 pub pick_n-le : (b : Bool) (x : ℕ) → pick_n b 0 x ≤ x
 pick_n-le true x = zero-le
 pick_n-le false x = le_refl x
+
+-- the first that is not deeper ends it
+pub span_none : (d : ℕ) → span d [] ≡ 0
+unfolding span
+span_none d = refl
+
+pub span_hit : (d w : ℕ) (ws : List ℕ) → depth_of w ≤ d → span d (w ∷ ws) ≡ 0
+unfolding span
+span_hit d w ws h = rw (le-leb (depth_of w) d h)
+
+pub span_miss : (d w : ℕ) (ws : List ℕ) → d < depth_of w → span d (w ∷ ws) ≡ span d ws + 1
+unfolding span
+span_miss d w ws h = rw (lt-leb (depth_of w) d h, add-one (span d ws))
 
 pub span-le : (d : ℕ) (ws : List ℕ) → span d ws ≤ length ws
 unfolding span

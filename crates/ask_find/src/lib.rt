@@ -3,7 +3,7 @@
 ghost use Rattle.std.specs.Prelude.{true, ◌≡◌, ◌+◌, ◌<◌, ◌≤◌, length, take, drop, get_or};
 ghost use Rattle.layout.specs.Fields.{depth_of};
 ghost use Rattle.name_order.specs.Order.{number};
-ghost use Rattle.ask_find.specs.Finds.{Within, Around, find_child, scan, Passed};
+ghost use Rattle.ask_find.specs.Finds.{Within, scan, Passed};
 ghost use Rattle.ask_find.specs.Spots.{Held, ChildIs, RootIs};
 ghost use Rattle.ask_find.specs.Spans.{span};
 
@@ -52,94 +52,77 @@ fn starts_less(bytes: &[u8], o: usize, key: u64) -> bool
 
 // Passes what stands before an entry: what lies deeper than the entries of a directory of depth d, and entries whose first bytes
 // are less than those of the entry's name, the first eight of which are the key. One comparison settles most of a large directory.
-fn pass(
-    records: &[u64],
-    bytes: &[u8],
-    count: usize,
-    d: usize,
-    start: usize,
-    off: usize,
-    key: u64,
-) -> Spot
-    requires { Within records.now bytes.now count start off }
-    ensures { Passed records.now bytes.now count d key start off result.at result.off }
+fn pass(records: &[u64], bytes: &[u8], d: usize, start: Spot, key: u64) -> Spot
+    requires { Within records.now bytes.now start }
+    ensures { Passed records.now bytes.now d key start result }
 {
-    let mut j = start;
-    let mut o = off;
-    while j < count {
-        let w = records[j];
+    let mut off = start.off;
+    for at in start.at..records.len() {
+        let w = records[at];
         let t = depth_of(w);
         if t <= d {
-            return Spot { at: j, off: o };
+            return Spot { at, off };
         }
-        let less = starts_less(bytes, o, key);
+        let less = starts_less(bytes, off, key);
         if !((t - d != 1) | less) {
-            return Spot { at: j, off: o };
+            return Spot { at, off };
         }
-        j += 1;
-        o += nlen_of(w);
+        off += nlen_of(w);
     }
-    Spot { at: j, off: o }
+    Spot {
+        at: records.len(),
+        off,
+    }
 }
 
-// Where the entry `name` of a directory of depth d stands, from record `start` on, whose name stands at off. What lies deeper
-// than an entry of the directory is passed without a comparison.
+// Where the entry `name` of a directory of depth d stands, from a record on. What lies deeper than an entry of the directory is passed
+// without a comparison.
 fn find_from(
     records: &[u64],
     bytes: &[u8],
-    count: usize,
     d: usize,
-    start: usize,
-    off: usize,
+    start: Spot,
     name: &[u8],
 ) -> Result<Spot, Spot>
-    requires { Within records.now bytes.now count start off }
-    ensures { result ≡ scan records.now bytes.now count d name.now start off }
+    requires { Within records.now bytes.now start }
+    ensures { result ≡ scan records.now bytes.now d name.now start }
 {
-    let mut j = start;
-    let mut o = off;
-    while j < count {
-        let w = records[j];
+    let mut off = start.off;
+    for at in start.at..records.len() {
+        let w = records[at];
         let t = depth_of(w);
         if t <= d {
-            return Err(Spot { at: j, off: o });
+            return Err(Spot { at, off });
         }
-        let e = o + nlen_of(w);
-        if t - d != 1 {
-            j += 1;
-            o = e;
-            continue;
-        }
-        match compare(&bytes[o..e], name) {
-            Ordering::Less => {}
-            Ordering::Equal => {
-                return Ok(Spot { at: j, off: o });
-            }
-            Ordering::Greater => {
-                return Err(Spot { at: j, off: o });
+        let e = off + nlen_of(w);
+        if t - d == 1 {
+            match compare(&bytes[off..e], name) {
+                Ordering::Less => {}
+                Ordering::Equal => return Ok(Spot { at, off }),
+                Ordering::Greater => return Err(Spot { at, off }),
             }
         }
-        j += 1;
-        o = e;
+        off = e;
     }
-    Err(Spot { at: j, off: o })
+    Err(Spot {
+        at: records.len(),
+        off,
+    })
 }
 
-// Where the entry `name` of the directory at record dir stands; off is the offset of the name of record dir + 1.
+// Where the entry `name` of a directory of depth d stands, from the record behind the directory on.
 fn find_child(
     records: &[u64],
     bytes: &[u8],
-    count: usize,
-    dir: usize,
-    off: usize,
+    d: usize,
+    start: Spot,
     name: &[u8],
 ) -> Result<Spot, Spot>
-    requires { Around records.now bytes.now count dir off }
-    ensures { result ≡ find_child records.now bytes.now count dir off name.now }
+    requires { Within records.now bytes.now start }
+    ensures { result ≡ scan records.now bytes.now d name.now start }
 {
-    let d = depth_of(records[dir]);
-    let r = pass(records, bytes, count, d, dir + 1, off, key(name));
-    find_from(records, bytes, count, d, r.at, r.off, name)
+    let spot = pass(records, bytes, d, start, key(name));
+    find_from(records, bytes, d, spot, name)
 }
 
 // The entry `name` of the directory at the spot. The record `hidden` counts as not there, with all below it: an entry that stands
@@ -155,10 +138,14 @@ pub fn child(
     requires { Held records.now bytes.now count dir }
     ensures { ChildIs records.now bytes.now count dir name.now hidden result }
 {
-    let i = dir.at;
-    let w = records[i];
-    let depth = depth_of(w) + 1;
-    match find_child(records, bytes, count, i, dir.off + nlen_of(w), name) {
+    let w = records[dir.at];
+    let d = depth_of(w);
+    let depth = d + 1;
+    let start = Spot {
+        at: dir.at + 1,
+        off: dir.off + nlen_of(w),
+    };
+    match find_child(&records[..count], bytes, d, start, name) {
         Ok(spot) if spot.at != hidden => Ok(spot),
         Ok(spot) => Err(spot.gap(depth)),
         Err(spot) => Err(spot.gap(depth)),
@@ -185,12 +172,7 @@ pub fn block_end(records: &[u64], count: usize, i: usize) -> usize
     ensures { result ≡ i + 1 + span (depth_of (get_or records.now i 0)) (drop (i + 1) (take count records.now)) }
 {
     let d = depth_of(records[i]);
-    let mut e = i + 1;
-    while e < count {
-        if depth_of(records[e]) <= d {
-            return e;
-        }
-        e += 1;
-    }
-    e
+    let behind = &records[i + 1..count];
+    let below = behind.iter().position(|w| depth_of(*w) <= d);
+    i + 1 + below.unwrap_or(behind.len())
 }

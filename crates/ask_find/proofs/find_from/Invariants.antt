@@ -1,14 +1,7 @@
--- `find::find_from` meets its contract: at each record the scan from there on gives the answer. Assumes nothing.
+-- `find_from` meets its contract: at each record the scan from there on gives the answer. Assumes nothing.
 use mathlib.Core.Path.{◌≡◌}
-use Prim.Native.Nat.{◌+◌, ◌-◌, ◌≤◌}
-use lib.ListN.{length}
-use Rattle.layout.specs.Rows.{name_total}
-use Rattle.ask_find.specs.Finds.{scan}
-use Rattle.ask_find.proofs.Reading.{from}
+use Rattle.ask_find.specs.Finds.{spot, scan, Within}
 use Rattle.ask_find.proofs.find_from.Given as goal
 
-abbrev pub invariant-loop-j : goal.invariant-loop-j
-invariant-loop-j l = (l.j ≤ l.count) × (l.o + name_total (from l.records l.count l.j) ≤ length l.bytes) × (scan l.records l.bytes l.count l.d l.name l.start l.off ≡ scan l.records l.bytes l.count l.d l.name l.j l.o)
-
-abbrev pub decreases-loop-j : goal.decreases-loop-j
-decreases-loop-j l = l.count - l.j
+abbrev pub invariant-loop-at : goal.invariant-loop-at
+invariant-loop-at l = Within l.records l.bytes (spot l.at l.off) × (scan l.records l.bytes l.d l.name l.fn.start ≡ scan l.records l.bytes l.d l.name (spot l.at l.off))
