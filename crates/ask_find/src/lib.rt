@@ -1,7 +1,7 @@
 #![tactic(auto)]
 // Reading the entries of a store that obeys the rules.
 ghost use Rattle.std.specs.Prelude.{true, ◌≡◌, ◌+◌, ◌<◌, ◌≤◌, length, take, drop, get_or};
-ghost use Rattle.layout.specs.Fields.{depth_of};
+ghost use Rattle.layout.specs.Fields.{depth_of, nlen_of};
 ghost use Rattle.name_order.specs.Order.{number};
 ghost use Rattle.ask_find.specs.Finds.{Within, scan, Passed};
 ghost use Rattle.ask_find.specs.Spots.{Held, ChildIs, RootIs};
@@ -19,6 +19,17 @@ pub struct Spot {
 }
 
 impl Spot {
+    // The record behind this one, the word of which is w.
+    pub fn behind(self, w: u64) -> Spot
+        requires { (self.at < usize.MAX) × (self.off + nlen_of w ≤ usize.MAX) }
+        ensures { result ≡ record { at = self.at + 1; off = self.off + nlen_of w } }
+    {
+        Spot {
+            at: self.at + 1,
+            off: self.off + nlen_of(w),
+        }
+    }
+
     // An entry of that depth may stand before the record.
     fn gap(self, depth: usize) -> Gap
         ensures { result ≡ record { at = self.at; off = self.off; depth = depth } }
@@ -141,11 +152,7 @@ pub fn child(
     let w = records[dir.at];
     let d = depth_of(w);
     let depth = d + 1;
-    let start = Spot {
-        at: dir.at + 1,
-        off: dir.off + nlen_of(w),
-    };
-    match find_child(&records[..count], bytes, d, start, name) {
+    match find_child(&records[..count], bytes, d, dir.behind(w), name) {
         Ok(spot) if spot.at != hidden => Ok(spot),
         Ok(spot) => Err(spot.gap(depth)),
         Err(spot) => Err(spot.gap(depth)),

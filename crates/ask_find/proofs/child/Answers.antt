@@ -6,7 +6,8 @@ use lib.ListN.{take, drop, get_or}
 use Rattle.layout.specs.Fields.{depth_of, nlen_of}
 use Rattle.layout.specs.Rows.{name_total, rows}
 use Rattle.layout.specs.Store.{Store, count, rows_of}
-use Rattle.ask_find.specs.Finds.{Place, find_in}
+use Rattle.ask_find.specs.declared.Spot.{Spot}
+use Rattle.ask_find.specs.Finds.{Place, find_in, scan}
 use Rattle.ask_find.proofs.Scan as scanning
 use Rattle.ask_find.proofs.Children.{Ready, ready, asked_is, next_is, depth_is, child-found, child-hidden, child-missing}
 use Rattle.ask_find.proofs.child.Goals.{After-find_child, Start}
@@ -16,36 +17,39 @@ use Rattle.ask_find.proofs.child.Goals as goal
 at-hand : (c : Start) → let a = c.args in Ready a.records.now a.bytes.now a.count a.dir
 at-hand c = let a = c.args in ready a.records.now a.bytes.now a.count a.dir c.requires
 
-pub overflow_add-start-2 : goal.overflow_add-start-2
-overflow_add-start-2 c = omega (arith, (at-hand (goal.at.overflow_add-start-2 c).Start).low, c.nlen_of.ensures)
+-- the offset of the first name behind the directory
+abbrev next : Start → ℕ
+next c = c.args.dir.off + nlen_of (get_or c.args.records.now c.args.dir.at 0)
 
--- what the search starts with, behind a name of k bytes
-start : (c : Start) (d k : ℕ) → k ≡ nlen_of (get_or c.args.records.now c.args.dir.at 0) → let a = c.args in
-    scanning.Start a.records.now a.bytes.now a.count d a.name.now (a.dir.at + 1) (a.dir.off + k)
-start c d k h =
+pub behind-requires : goal.behind-requires
+behind-requires c = let r = at-hand (goal.at.behind-requires c).Start in (omega (arith, r.within, r.few), omega (arith, r.low))
+
+-- what the search starts with
+start : (c : Start) (d : ℕ) → let a = c.args in scanning.Start a.records.now a.bytes.now a.count d a.name.now (a.dir.at + 1) (next c)
+start c d =
     let a = c.args in
     let r = at-hand c in
-    scanning.scan-start a.records.now a.bytes.now a.count d a.name.now (a.dir.at + 1) (a.dir.off + k) r.long (omega (arith, r.within)) (ap (◌+◌ a.dir.off) h ∙ r.next) r.room
+    scanning.scan-start a.records.now a.bytes.now a.count d a.name.now (a.dir.at + 1) (next c) r.long (omega (arith, r.within)) r.next r.room
 
 pub find_child-requires : goal.find_child-requires
-find_child-requires c = (start (goal.at.find_child-requires c).Start 0 c.nlen_of.result c.nlen_of.ensures).within
+find_child-requires c = rw c.behind.ensures (start (goal.at.find_child-requires c).Start 0).within
 
 -- the place that was answered, of a store that has the slices
 told : (c : After-find_child) (w : Place) → c.find_child.result ≡ w → (st : Store) → let s = c.args in
     st.records ≡ s.records.now → st.bytes ≡ s.bytes.now → count st ≡ s.count
-    → w ≡ find_in (depth_of (get_or st.records s.dir.at 0)) s.name.now (drop (s.dir.at + 1) (rows_of st)) (s.dir.at + 1) (s.dir.off + c.nlen_of.result)
+    → w ≡ find_in (depth_of (get_or st.records s.dir.at 0)) s.name.now (drop (s.dir.at + 1) (rows_of st)) (s.dir.at + 1) (next (goal.at.After-find_child c).Start)
 told c w y st e f n =
     let s = c.args in
+    let i = (goal.at.After-find_child c).Start in
     sym y ∙ c.find_child.ensures
-    ∙ (start (goal.at.After-find_child c).Start c.depth_of-d.result c.nlen_of.result c.nlen_of.ensures).same
-    ∙ ap (λ (d : ℕ). find_in d s.name.now (drop (s.dir.at + 1) (rows (take s.count s.records.now) s.bytes.now)) (s.dir.at + 1) (s.dir.off + c.nlen_of.result)) c.depth_of-d.ensures
-    ∙ asked_is s.records.now s.bytes.now s.count st e f n s.dir s.name.now (s.dir.off + c.nlen_of.result)
+    ∙ ap (λ (o : Spot). scan (take s.count s.records.now) s.bytes.now c.depth_of-d.result s.name.now o) c.behind.ensures
+    ∙ (start i c.depth_of-d.result).same
+    ∙ ap (λ (d : ℕ). find_in d s.name.now (drop (s.dir.at + 1) (rows (take s.count s.records.now) s.bytes.now)) (s.dir.at + 1) (next i)) c.depth_of-d.ensures
+    ∙ asked_is s.records.now s.bytes.now s.count st e f n s.dir s.name.now (next i)
 
-offset : (c : After-find_child) → (st : Store) → let s = c.args in
-    st.records ≡ s.records.now → st.bytes ≡ s.bytes.now → count st ≡ s.count → s.dir.off + c.nlen_of.result ≡ name_total (take (s.dir.at + 1) st.records)
-offset c st e f n =
-    let s = c.args in
-    next_is s.records.now s.bytes.now s.count st e f n s.dir (s.dir.off + c.nlen_of.result) (ap (◌+◌ s.dir.off) c.nlen_of.ensures ∙ (at-hand (goal.at.After-find_child c).Start).next)
+offset : (c : Start) → (st : Store) → let s = c.args in
+    st.records ≡ s.records.now → st.bytes ≡ s.bytes.now → count st ≡ s.count → next c ≡ name_total (take (s.dir.at + 1) st.records)
+offset c st e f n = let s = c.args in next_is s.records.now s.bytes.now s.count st e f n s.dir (next c) (at-hand c).next
 
 deep : (c : After-find_child) → (st : Store) → let s = c.args in
     st.records ≡ s.records.now → st.bytes ≡ s.bytes.now → count st ≡ s.count → c.depth_of-d.result + 1 ≡ depth_of (get_or st.records s.dir.at 0) + 1
@@ -56,18 +60,21 @@ returns-in-Ok c =
     λ st e f n l p t a d k.
     let s = c.args in
     let w = (goal.at.returns-in-Ok c).After-find_child in
-    child-found st l s.dir p a s.hidden t d k s.name.now (s.dir.off + c.nlen_of.result) (offset w st e f n) c.in-Ok.spot.at c.in-Ok.spot.off c.if-spot-hidden.true (told w _ c.in-Ok.is st e f n)
+    let i = (goal.at.returns-in-Ok c).Start in
+    child-found st l s.dir p a s.hidden t d k s.name.now (next i) (offset i st e f n) c.in-Ok.spot.at c.in-Ok.spot.off c.if-spot-hidden.true (told w _ c.in-Ok.is st e f n)
 
 pub returns-in-Ok-2 : goal.returns-in-Ok-2
 returns-in-Ok-2 c =
     λ st e f n l p t a d k.
     let s = c.args in
     let w = (goal.at.returns-in-Ok-2 c).After-find_child in
-    rw c.gap.ensures (child-hidden st l s.dir p a s.hidden t d k s.name.now (s.dir.off + c.nlen_of.result) (offset w st e f n) c.in-Ok.spot.at c.in-Ok.spot.off (c.depth_of-d.result + 1) c.if-spot-hidden.false (told w _ c.in-Ok.is st e f n) (deep w st e f n))
+    let i = (goal.at.returns-in-Ok-2 c).Start in
+    rw c.gap.ensures (child-hidden st l s.dir p a s.hidden t d k s.name.now (next i) (offset i st e f n) c.in-Ok.spot.at c.in-Ok.spot.off (c.depth_of-d.result + 1) c.if-spot-hidden.false (told w _ c.in-Ok.is st e f n) (deep w st e f n))
 
 pub returns-in-Err : goal.returns-in-Err
 returns-in-Err c =
     λ st e f n l p t a d k.
     let s = c.args in
     let w = (goal.at.returns-in-Err c).After-find_child in
-    rw c.gap-in-Err.ensures (child-missing st l s.dir p a s.hidden t d k s.name.now (s.dir.off + c.nlen_of.result) (offset w st e f n) c.in-Err.spot.at c.in-Err.spot.off (c.depth_of-d.result + 1) (told w _ c.in-Err.is st e f n) (deep w st e f n))
+    let i = (goal.at.returns-in-Err c).Start in
+    rw c.gap-in-Err.ensures (child-missing st l s.dir p a s.hidden t d k s.name.now (next i) (offset i st e f n) c.in-Err.spot.at c.in-Err.spot.off (c.depth_of-d.result + 1) (told w _ c.in-Err.is st e f n) (deep w st e f n))
