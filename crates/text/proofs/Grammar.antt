@@ -7,6 +7,7 @@ use mathlib.Core.Path.{◌≡◌, refl, subst}
 use Prim.Native.Nat.{ℕ, zero, suc}
 use native.Mathlib.Omega.{arith}
 use lib.Dec.{T}
+use Rattle.std.proofs.Common.{Option, None, Some}
 use lib.ListN.{length, take, drop, take-append-drop}
 use Rattle.text.proofs.Reading.{Next, stop, go, row_after, run, pend, ascending, ascends, behind, text-pend}
 use Rattle.text.proofs.Laws.{text_none, text-append}
@@ -25,7 +26,7 @@ starts-matches (r ∷ rs) (b ∷ s) t = pick (inside r b) (starts-matches rs s) 
     pick false f h = h
 
 -- the first character of a text is one of the rows
-char_one : (more : List (List Range)) (s : Bytes) (k : ℕ) → char_length more s ≡ suc k → T (one_of more (take (suc k) s))
+char_one : (more : List (List Range)) (s : Bytes) (k : ℕ) → char_length more s ≡ Some (suc k) → T (one_of more (take (suc k) s))
 unfolding char_length one_of
 char_one [] s k e = absurd (let z : ◌≡◌ {A = ℕ} 0 1 = cc in omega arith)
 char_one (row ∷ more) s k e = pick (starts row s) (starts-matches row s) (char_one more s k) e
@@ -39,12 +40,12 @@ char_one (row ∷ more) s k e = pick (starts row s) (starts-matches row s) (char
     or_right false y t = t
 
     pick : (x : Bool) → (T x → T (matches row (take (length row) s)))
-        → (char_length more s ≡ suc k → T (one_of more (take (suc k) s)))
-        → cond x (length row) (char_length more s) ≡ suc k
+        → (char_length more s ≡ Some (suc k) → T (one_of more (take (suc k) s)))
+        → cond x (Some (length row)) (char_length more s) ≡ Some (suc k)
         → T (matches row (take (suc k) s) || one_of more (take (suc k) s))
     pick true f g h =
         or_left (matches row (take (suc k) s)) (one_of more (take (suc k) s))
-        (subst (λ (n : ℕ). T (matches row (take n s))) h (f tt))
+        (let n : length row ≡ suc k = cc in subst (λ (n : ℕ). T (matches row (take n s))) n (f tt))
     pick false f g h = or_right (matches row (take (suc k) s)) (one_of more (take (suc k) s)) (g h)
 
 -- what passes the test behind k octets is of the grammar
@@ -55,10 +56,11 @@ whole [] (suc k) t = absurd t
 whole (b ∷ s) (suc k) t = whole s k t
 whole (b ∷ s) zero t = pick (char_length rows (b ∷ s)) refl (whole s) t
   where
-    pick : (n : ℕ) → char_length rows (b ∷ s) ≡ n → ((k : ℕ) → T (octets k s) → Octets (drop k s))
+    pick : (n : Option ℕ) → char_length rows (b ∷ s) ≡ n → ((k : ℕ) → T (octets k s) → Octets (drop k s))
         → T (past n (λ k. octets k s)) → Octets (b ∷ s)
-    pick zero e ih h = absurd h
-    pick (suc k) e ih h =
+    pick None e ih h = absurd h
+    pick (Some zero) e ih h = absurd h
+    pick (Some (suc k)) e ih h =
         subst (λ (u : Bytes). Octets (b ∷ u)) (take-append-drop k s)
         (char (b ∷ take k s) (drop k s) (char_one rows (b ∷ s) k e) (ih k h))
 

@@ -4,12 +4,13 @@
 use mathlib.Core.Bool.{Bool, true, false, ◌&&◌, cond, not}
 use mathlib.Core.List.{List, [], ◌∷◌}
 use mathlib.Core.Path.{◌≡◌, refl, sym, ap, ap₂, ◌∙◌}
-use Prim.Native.Nat.{ℕ, zero, suc, ◌+◌, ◌<◌}
+use Prim.Native.Nat.{ℕ, zero, suc, ◌+◌, ◌≤◌, ◌<◌}
 use native.Mathlib.Nat.{add-zero, zero-add, add-suc, suc-add, le_of_suc-le-suc, not-suc-le-zero}
 use native.Mathlib.Omega.{arith}
 use native.Mathlib.Numerals.{add-one}
 use lib.Dec.{T, leb, ltb, eqb, eqb→eq}
-use lib.ListN.{length, get_or, drop, replicate}
+use lib.ListN.{length, get_or, drop, replicate, drop_of_length-le}
+use Rattle.std.proofs.Common.{Option, None, Some}
 use lib.Seq.{drop-cons, drop-drop}
 use Rattle.text.proofs.Table.{both, both_left, both_right, every, at}
 use Rattle.text.proofs.Reading.{Next, stop, go, row_after, size, size-rows, ascends}
@@ -137,18 +138,18 @@ unfolding class_of classes leads place second_of nine ends
 ends_right lead l = at ends nine tt lead l
 
 -- the lowest
-pub low-class : (lead : ℕ) → lead < 9 → lowest lead ≡ class_of (second_of lead).low
+pub low_class : (lead : ℕ) → lead < 9 → class_of (second_of lead).low ≡ lowest lead
 unfolding ends
-low-class lead l =
-    eqb→eq (lowest lead) (class_of (second_of lead).low)
-    (both_left (eqb (lowest lead) (class_of (second_of lead).low)) (eqb (highest lead) (class_of (second_of lead).high)) (ends_right lead l))
+low_class lead l =
+    sym (eqb→eq (lowest lead) (class_of (second_of lead).low)
+    (both_left (eqb (lowest lead) (class_of (second_of lead).low)) (eqb (highest lead) (class_of (second_of lead).high)) (ends_right lead l)))
 
 -- the highest
-pub high-class : (lead : ℕ) → lead < 9 → highest lead ≡ class_of (second_of lead).high
+pub high_class : (lead : ℕ) → lead < 9 → class_of (second_of lead).high ≡ highest lead
 unfolding ends
-high-class lead l =
-    eqb→eq (highest lead) (class_of (second_of lead).high)
-    (both_right (eqb (lowest lead) (class_of (second_of lead).low)) (eqb (highest lead) (class_of (second_of lead).high)) (ends_right lead l))
+high_class lead l =
+    sym (eqb→eq (highest lead) (class_of (second_of lead).high)
+    (both_right (eqb (lowest lead) (class_of (second_of lead).low)) (eqb (highest lead) (class_of (second_of lead).high)) (ends_right lead l)))
 
 -- the octet at a place, as what the text begins with there
 pub starts-at : (r : Range) (rs : List Range) (s : Bytes) (i : ℕ) → i < length s
@@ -162,12 +163,17 @@ and-true true = refl
 and-true false = refl
 
 -- a second octet, by its class
-pub second-starts : (s : Bytes) (i lead : ℕ) → i < length s → get_or s i 0 < 256 → lead < 9
-    → (leb (class_of (second_of lead).low) (class_of (get_or s i 0)) && leb (class_of (get_or s i 0)) (class_of (second_of lead).high))
-    ≡ starts (second_of lead ∷ []) (drop i s)
+pub second_starts : (s : Bytes) (i lead : ℕ) → i < length s → get_or s i 0 < 256 → lead < 9
+    → starts (second_of lead ∷ []) (drop i s)
+    ≡ (leb (class_of (second_of lead).low) (class_of (get_or s i 0)) && leb (class_of (get_or s i 0)) (class_of (second_of lead).high))
 unfolding starts
-second-starts s i lead l h w =
-    second-class (get_or s i 0) lead h w ∙ sym (starts-at (second_of lead) [] s i l ∙ and-true (inside (second_of lead) (get_or s i 0)))
+second_starts s i lead l h w =
+    starts-at (second_of lead) [] s i l ∙ and-true (inside (second_of lead) (get_or s i 0)) ∙ sym (second-class (get_or s i 0) lead h w)
+
+-- none is there
+pub second_past : (s : Bytes) (i lead : ℕ) → length s ≤ i → starts (second_of lead ∷ []) (drop i s) ≡ false
+unfolding starts
+second_past s i lead h = ap (λ (u : Bytes). starts (second_of lead ∷ []) u) (drop_of_length-le s h)
 
 -- the text begins with an octet of the first range and then with those of the others
 starts_both : (r : Range) (rs : List Range) (s : Bytes) → starts (r ∷ rs) s ≡ (starts (r ∷ []) s && starts rs (drop 1 s))
@@ -176,40 +182,40 @@ starts_both r rs [] = refl
 starts_both r rs (b ∷ s) = ap (λ (x : Bool). x && starts rs s) (sym (and-true (inside r b)))
 
 -- one test of two, as two tests
-and_cond : (x y : Bool) (n : ℕ) → cond (x && y) n 0 ≡ cond x (cond y n 0) 0
+and_cond : (x y : Bool) (n : Option ℕ) → cond (x && y) n None ≡ cond x (cond y n None) None
 and_cond true y n = refl
 and_cond false y n = refl
 
 -- the length of a character as the code finds it: by its class and by what x, y and z say of the second, third and fourth octet
-abbrev pub pick : ℕ → Bool → Bool → Bool → ℕ
+abbrev pub pick : ℕ → Bool → Bool → Bool → Option ℕ
 pick c x y z =
-    cond (eqb c 0) 1 (cond (ltb 8 c) 0 (cond x (cond (eqb c 1) 2 (cond y (cond (ltb c 6) 3 (cond z 4 0)) 0)) 0))
+    cond (eqb c 0) (Some 1) (cond (ltb 8 c) None (cond x (cond (eqb c 1) (Some 2) (cond y (cond (ltb c 6) (Some 3) (cond z (Some 4) None)) None)) None))
 
 -- the length of what is asked for, range by range
 asked-size : (q p u v : Bool) (r : Range) (s : Bytes)
     → size (cond q (go []) (cond p stop (go (r ∷ cond u [] (tail ∷ cond v [] (tail ∷ [])))))) s
-    ≡ cond q 1 (cond p 0 (cond (starts (r ∷ []) s) (cond u 2 (cond (starts (tail ∷ []) (drop 1 s)) (cond v 3
-    (cond (starts (tail ∷ []) (drop 1 (drop 1 s))) 4 0)) 0)) 0))
+    ≡ cond q (Some 1) (cond p None (cond (starts (r ∷ []) s) (cond u (Some 2) (cond (starts (tail ∷ []) (drop 1 s)) (cond v (Some 3)
+    (cond (starts (tail ∷ []) (drop 1 (drop 1 s))) (Some 4) None)) None)) None))
 unfolding starts
 asked-size true p u v r s = refl
 asked-size false true u v r s = refl
 asked-size false false true v r s = refl
 asked-size false false false true r s =
-    rw (starts_both r (tail ∷ []) s) (and_cond (starts (r ∷ []) s) (starts (tail ∷ []) (drop 1 s)) 3)
+    rw (starts_both r (tail ∷ []) s) (and_cond (starts (r ∷ []) s) (starts (tail ∷ []) (drop 1 s)) (Some 3))
 asked-size false false false false r s =
     let x : Bool = starts (r ∷ []) s in
     let y : Bool = starts (tail ∷ []) (drop 1 s) in
     let z : Bool = starts (tail ∷ []) (drop 1 (drop 1 s)) in
     rw (starts_both r (tail ∷ tail ∷ []) s, starts_both tail (tail ∷ []) (drop 1 s))
-    (and_cond x (y && z) 4 ∙ ap (λ (n : ℕ). cond x n 0) (and_cond y z 4))
+    (and_cond x (y && z) (Some 4) ∙ ap (λ (n : Option ℕ). cond x n None) (and_cond y z (Some 4)))
 
 -- the length of the character at i
-pub char-pick : (s : Bytes) (i : ℕ) → i < length s → get_or s i 0 < 256
+pub char_pick : (s : Bytes) (i : ℕ) → i < length s → get_or s i 0 < 256
     → char_length rows (drop i s)
     ≡ pick (class_of (get_or s i 0)) (starts (second_of (class_of (get_or s i 0)) ∷ []) (drop (i + 1) s))
     (starts (tail ∷ []) (drop (i + 2) s)) (starts (tail ∷ []) (drop (i + 3) s))
 unfolding asked
-char-pick s i l h =
+char_pick s i l h =
     let c : ℕ = class_of (get_or s i 0) in
     let t : Bytes = drop (i + 1) s in
     let e₁ : drop i s ≡ get_or s i 0 ∷ t = rw (add-one, drop-cons s i 0) in

@@ -8,6 +8,7 @@ use Prim.Native.Nat.{ℕ, suc, ◌≤◌, ◌<◌}
 use native.Mathlib.Omega.{arith}
 use lib.Dec.{T, leb, ltb, ltb→lt}
 use lib.ListN.{length}
+use Rattle.std.proofs.Common.{Option, None, Some}
 use borrow.Author.Tests.{leb-true, lt-leb}
 use Rattle.text.proofs.Table.{both, both_left, both_right}
 use Rattle.text.specs.Utf8.{Bytes, Range, inside, rows, starts, char_length, past, octets, text}
@@ -44,7 +45,7 @@ pend rs [] = none? rs
 pend rs (b ∷ s) = run (after rs b) (λ q. pend q s)
 
 -- each row begins above h
-above : ℕ → List (List Range) → Bool
+pub above : ℕ → List (List Range) → Bool
 above h [] = true
 above h ([] ∷ more) = false
 above h ((r ∷ rs) ∷ more) = both (ltb h r.low) (above h more)
@@ -89,14 +90,14 @@ behind r rs more b t = (
   λ e. none_above more r.high b (inside-high r b e) (both_left (above r.high more) (ascending more) t),
 )
 
--- the length of the character whose first octet is passed; 0: none
-abbrev pub size : Next → Bytes → ℕ
-size stop s = 0
-size (go rs) s = cond (starts rs s) (suc (length rs)) 0
+-- the length of the character whose first octet is passed
+abbrev pub size : Next → Bytes → Option ℕ
+size stop s = None
+size (go rs) s = cond (starts rs s) (Some (suc (length rs))) None
 
 -- one row more
-size-row : (i x : Bool) (rs : List Range) (s : Bytes) (n : Next) (l : ℕ) → starts rs s ≡ x → (i ≡ true → n ≡ stop)
-    → l ≡ size n s → cond (i && x) (suc (length rs)) l ≡ size (cond i (go rs) n) s
+size-row : (i x : Bool) (rs : List Range) (s : Bytes) (n : Next) (l : Option ℕ) → starts rs s ≡ x → (i ≡ true → n ≡ stop)
+    → l ≡ size n s → cond (i && x) (Some (suc (length rs))) l ≡ size (cond i (go rs) n) s
 size-row true true rs s n l e z h = rw e refl
 size-row true false rs s n l e z h = rw e (h ∙ ap (λ (m : Next). size m s) (z refl))
 size-row false x rs s n l e z h = h
@@ -111,7 +112,7 @@ size-rows ((r ∷ rs) ∷ more) b s t =
     size-row (inside r b) (starts rs s) rs s (row_after more b) (char_length more (b ∷ s)) refl w.1 (size-rows more b s w.0)
 
 -- a character and what is behind it, by its length
-past_size : (x : Bool) (n : ℕ) (f : ℕ → Bool) → (x && f n) ≡ past (cond x (suc n) 0) f
+past_size : (x : Bool) (n : ℕ) (f : ℕ → Bool) → (x && f n) ≡ past (cond x (Some (suc n)) None) f
 past_size true n f = refl
 past_size false n f = refl
 
@@ -134,7 +135,7 @@ pend-octets [] [] = refl
 pend-octets (r ∷ rs) [] = refl
 pend-octets [] (b ∷ s) =
     run_past (row_after rows b) s (λ q. pend-octets q s)
-    ∙ ap (λ (n : ℕ). past n (λ k. octets k s)) (sym (size-rows rows b s ascends))
+    ∙ ap (λ (n : Option ℕ). past n (λ k. octets k s)) (sym (size-rows rows b s ascends))
 pend-octets (r ∷ rs) (b ∷ s) = one_range (inside r b) (starts rs s) (octets (length rs) s) rs s (pend-octets rs s)
 
 -- a valid text is one that asks for nothing before it begins

@@ -1,6 +1,6 @@
 -- Valid text (01, refusal 2): RFC 3629, section 4 (syntax of UTF-8 byte sequences), without the zero byte.
 -- Assumes nothing.
-use Rattle.std.specs.Prelude.{Bool, true, false, ◌&&◌, ◌||◌, cond, List, [], ◌∷◌, ◌++◌, ℕ, zero, suc, T, leb, length}
+use Rattle.std.specs.Prelude.{Bool, true, false, ◌&&◌, ◌||◌, cond, List, [], ◌∷◌, ◌++◌, ℕ, zero, suc, T, leb, length, Option, None, Some}
 
 -- the octets of a path, a name, a target or a file
 abbrev pub Bytes : Type 0
@@ -62,15 +62,16 @@ starts [] s = true
 starts (r ∷ rs) [] = false
 starts (r ∷ rs) (b ∷ s) = inside r b && starts rs s
 
--- the length of the first row that the text begins with; 0: none
-unfoldable pub char_length : List (List Range) → Bytes → ℕ
-char_length [] s = 0
-char_length (row ∷ rest) s = cond (starts row s) (length row) (char_length rest s)
+-- the length of the first row that the text begins with
+unfoldable pub char_length : List (List Range) → Bytes → Option ℕ
+char_length [] s = None
+char_length (row ∷ rest) s = cond (starts row s) (Some (length row)) (char_length rest s)
 
--- a character of n octets, of which the first is passed, and then what f says behind the others; 0: no character
-abbrev pub past : ℕ → (ℕ → Bool) → Bool
-past zero f = false
-past (suc k) f = f k
+-- a character of so many octets, of which the first is passed, and then what f says behind the others
+abbrev pub past : Option ℕ → (ℕ → Bool) → Bool
+past None f = false
+past (Some zero) f = false
+past (Some (suc k)) f = f k
 
 -- characters to the end, after k octets more of the one begun
 unfoldable pub octets : ℕ → Bytes → Bool

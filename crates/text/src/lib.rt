@@ -6,8 +6,27 @@ ghost use Rattle.text.specs.Classes.{class_of, table};
 ghost use Rattle.text.specs.Steps.{second_of};
 ghost use Rattle.text.specs.Looks.{Plain};
 
-// The class of each byte. 0 to 8: it begins that row of the RFC's grammar. 9 to 11: 80-8F, 90-9F, A0-BF, which continue a
-// character. 12: it stands in no valid text. A byte string, since the formatter gives each element of an array a line.
+// The classes of bytes. Those that begin a character are numbered as the rows of the RFC's grammar, by the row's length and then by
+// the bytes, so that tests of order tell how many octets follow.
+const ASCII: u8 = 0; // 01-7F
+
+const TWO: u8 = 1; // C2-DF, of two octets
+
+const E0: u8 = 2;
+
+const ED: u8 = 4; // between them 3, E1-EC; behind it 5, EE-EF
+
+const F0: u8 = 6;
+
+const F4: u8 = 8; // between them 7, F1-F3
+
+const TAIL_80: u8 = 9; // 80-8F, which continues a character, as those below do
+
+const TAIL_90: u8 = 10; // 90-9F
+
+const TAIL_A0: u8 = 11; // A0-BF
+
+// The class of each byte; 12: it stands in no valid text. A byte string, since the formatter gives each element of an array a line.
 const CLASSES: [u8; 256] = *b"\
     \x0c\x00\x00\x00\x00\x00\x00\x00\x00\x00\x00\x00\x00\x00\x00\x00\
     \x00\x00\x00\x00\x00\x00\x00\x00\x00\x00\x00\x00\x00\x00\x00\x00\
@@ -27,42 +46,43 @@ const CLASSES: [u8; 256] = *b"\
     \x06\x07\x07\x07\x08\x0c\x0c\x0c\x0c\x0c\x0c\x0c\x0c\x0c\x0c\x0c";
 
 // The class of the octet at `at`. The table is handed on as a reference: a constant that is indexed is copied at every use.
+#[tactic(auto, using(crate::proofs::Lead::table_at))]
 fn class_at(classes: &[u8; 256], s: &[u8], at: usize) -> u8
     requires { (classes.now ≡ table) × (at < length s.now) }
     ensures { result ≡ class_of (get_or s.now at 0) }
 {
-    classes[s[at] as usize]
+    let b = s[at];
+    classes[b as usize]
 }
 
-// The class of the lowest octet that can be second behind the class `lead`: rows 2 and 6 refuse more octets than a character needs.
+// The class of the lowest octet that can be second behind the class `lead`: two rows refuse more octets than a character needs.
+#[tactic(auto, using(crate::proofs::Lead::low_class))]
 fn second_low(lead: u8) -> u8
     requires { lead < 9 }
     ensures { result ≡ class_of (second_of lead).low }
 {
-    if lead == 2 {
-        return 11;
+    match lead {
+        E0 => TAIL_A0,
+        F0 => TAIL_90,
+        _ => TAIL_80,
     }
-    if lead == 6 {
-        return 10;
-    }
-    9
 }
 
-// The class of the highest octet that can be second behind the class `lead`: row 4 refuses surrogates, row 8 what is above 10FFFF.
+// The class of the highest octet that can be second behind the class `lead`: one row refuses surrogates, another what is above 10FFFF.
+#[tactic(auto, using(crate::proofs::Lead::high_class))]
 fn second_high(lead: u8) -> u8
     requires { lead < 9 }
     ensures { result ≡ class_of (second_of lead).high }
 {
-    if lead == 4 {
-        return 10;
+    match lead {
+        ED => TAIL_90,
+        F4 => TAIL_80,
+        _ => TAIL_A0,
     }
-    if lead == 8 {
-        return 9;
-    }
-    11
 }
 
 // Whether the octet at `at` is there and can be the second of a character that begins with the class `lead`.
+#[tactic(auto, using(crate::proofs::Lead::second_starts, crate::proofs::Lead::second_past))]
 fn second_at(classes: &[u8; 256], s: &[u8], at: usize, lead: u8) -> bool
     requires { (classes.now ≡ table) × (lead < 9) }
     ensures { result ≡ starts (second_of lead ∷ []) (drop at s.now) }
@@ -71,61 +91,61 @@ fn second_at(classes: &[u8; 256], s: &[u8], at: usize, lead: u8) -> bool
         return false;
     }
     let class = class_at(classes, s, at);
-    if class < second_low(lead) {
-        return false;
-    }
-    class <= second_high(lead)
+    second_low(lead) <= class && class <= second_high(lead)
 }
 
-// Whether the octet at `at` is there and continues a character: what is second behind the class 1 is any such octet.
+// Whether the octet at `at` is there and continues a character: what is second behind the class TWO is any such octet.
+#[tactic(auto, unfolding(crate::specs::Steps::second_of))]
 fn tail_at(classes: &[u8; 256], s: &[u8], at: usize) -> bool
     requires { classes.now ≡ table }
     ensures { result ≡ starts (tail ∷ []) (drop at s.now) }
 {
-    second_at(classes, s, at, 1)
+    second_at(classes, s, at, TWO)
 }
 
-// The length of the character that stands at i; 0 where none does.
-fn char_len(classes: &[u8; 256], s: &[u8], i: usize) -> usize
+// The length of the character that stands at i, if one does.
+#[tactic(auto, using(crate::proofs::Lead::char_pick))]
+fn char_len(classes: &[u8; 256], s: &[u8], i: usize) -> Option<usize>
     requires { (classes.now ≡ table) × (i < length s.now) }
     ensures { result ≡ char_length rows (drop i s.now) }
 {
     let lead = class_at(classes, s, i);
-    if lead == 0 {
-        return 1;
+    if lead == ASCII {
+        return Some(1);
     }
-    if 8 < lead {
-        return 0;
+    if F4 < lead {
+        return None;
     }
     if !second_at(classes, s, i + 1, lead) {
-        return 0;
+        return None;
     }
-    if lead == 1 {
-        return 2;
+    if lead == TWO {
+        return Some(2);
     }
     if !tail_at(classes, s, i + 2) {
-        return 0;
+        return None;
     }
-    if lead < 6 {
-        return 3;
+    if lead < F0 {
+        return Some(3);
     }
     if !tail_at(classes, s, i + 3) {
-        return 0;
+        return None;
     }
-    4
+    Some(4)
 }
 
 // Whether s is text, character by character.
+#[tactic(auto, using(crate::proofs::Turns::refused, crate::proofs::Turns::over), unfolding(crate::specs::Utf8::text))]
 fn walk(classes: &[u8; 256], s: &[u8]) -> bool
     requires { classes.now ≡ table }
     ensures { result ≡ text s.now }
 {
     let mut i = 0;
+    // kept: a step is as long as the character that stands at i.
     while i < s.len() {
-        let k = char_len(classes, s, i);
-        if k == 0 {
+        let Some(k) = char_len(classes, s, i) else {
             return false;
-        }
+        };
         i += k;
     }
     true
@@ -136,11 +156,8 @@ fn all_plain(s: &[u8]) -> bool
     ensures { result ≡ true → Plain s.now 0 (length s.now) }
 {
     let mut seen = false;
-    let mut i = 0;
-    while i < s.len() {
-        let b = s[i];
-        seen = seen | (b == 0) | (128 <= b);
-        i += 1;
+    for b in s {
+        seen |= (*b == 0) | (128 <= *b);
     }
     !seen
 }
