@@ -59,7 +59,7 @@ module _ (st : Store) (l : Lawful st) (n : ℕ) (h : n < 32) where
   open_told z =
       ap (λ (o : Option Open). on_some {B = Position} o (λ p. some (record { pos = p.pos; kept = p.kept }))) (open_there st 32 0 n (omega arith) (omega arith) z)
 
-  held-told : (holder st n ≡ 0 → ⊥) → answer (held? n) world ≡ some (bytes_at st (holder st n - 1))
+  pub held-told : (holder st n ≡ 0 → ⊥) → answer (held? n) world ≡ some (bytes_at st (holder st n - 1))
   unfolding answer
   held-told z =
       let s = stood st l n h z in

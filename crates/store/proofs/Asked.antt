@@ -23,13 +23,13 @@ told st s h q = answer-alike q (state (trim st)) s (lawful-shape (trim st) h.roo
 
 -- ---- bytes and numbers
 
-pub contents-told : (st : Store) (s : State) → Shows st s → (p : Path) (b : Bytes) → Contents (world_of (state (trim st))) p b → Contents (world_of s) p b
-contents-told st s h p b x =
+pub contents-told : {st : Store} {s : State} → Shows st s → {p : Path} {b : Bytes} → Contents (world_of (state (trim st))) p b → Contents (world_of s) p b
+contents-told {st} {s} h {p} x =
     record {
       file = λ e. sym (told st s h (bytes? p)) ∙ x.file (told st s h (kind? p) ∙ e);
       link = λ e. sym (told st s h (target? p)) ∙ x.link (told st s h (kind? p) ∙ e);
     }
 
-pub number-told : (st : Store) (s : State) → Shows st s → (n : ℕ) (r : std.Option Opened) → reads.NumberIs (trim st) n r → NumberIs s n (option_map (λ (o : Opened). o.pos) r)
-number-told st s h n std.None x = sym (told st s h (open? n)) ∙ x
-number-told st s h n (std.Some o) x = (record { pos = o.pos; kept = kept_of (trim st) n }, sym (told st s h (open? n)) ∙ x.1, refl)
+pub number-told : {st : Store} {s : State} → Shows st s → (n : ℕ) (r : std.Option Opened) → reads.NumberIs (trim st) n r → NumberIs s n (option_map (λ (o : Opened). o.pos) r)
+number-told {st} {s} h n std.None x = sym (told st s h (open? n)) ∙ x
+number-told {st} {s} h n (std.Some o) x = (record { pos = o.pos; kept = kept_of (trim st) n }, sym (told st s h (open? n)) ∙ x.1, refl)

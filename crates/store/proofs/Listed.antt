@@ -29,7 +29,7 @@ placed words records spot x =
     let u = (with_words words ∘ with_records records) x.0 in
     (u.bytes, record { store = trim u; path = x.2; records = refl; bytes = refl; counted = refl; lawful = x.3.roomy.lawful; at = x.4 })
 
-module _ (u : Store) (s : State) (h : Shows u s) (p : Path) where
+module _ {u : Store} {s : State} (h : Shows u s) (p : Path) where
   pub listed-told : listing_of (trim u) p ≡ listed s p
   unfolding answer
   listed-told = told u s h (list? p)
@@ -54,5 +54,5 @@ roomy words records bytes spot out x =
     let u = (with_words words ∘ with_records records ∘ with_bytes bytes) x.0 in
     record {
       held = record { store = trim u; path = x.2; records = refl; bytes = refl; counted = refl; lawful = x.3.roomy.lawful; at = x.4 };
-      fits = omega (arith, x.5, ap (λ (l : List (Name × Stat)). length (names_text l)) (listed-told u x.1 x.3 x.2));
+      fits = omega (arith, x.5, ap (λ (l : List (Name × Stat)). length (names_text l)) (listed-told x.3 x.2));
     }

@@ -49,7 +49,7 @@ still v q p k e =
     let b = cut_some q v.at p a.0 a.1 in
     (b.0, a.1 ∙ sym b.1)
 
-module _ (u : Store) (s : State) (h : Shows u s) where
+module _ {u : Store} {s : State} (h : Shows u s) where
   after : (q : Path) (a : Ask) → answer a (apply (take q) (world_of (state (trim u)))) ≡ answer a (apply (take q) (world_of s))
   after q a = answer-after (take q) a (state (trim u)) s (lawful-shape (trim u) h.roomy.lawful) h.shaped h.alike
 

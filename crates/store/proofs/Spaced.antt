@@ -75,7 +75,7 @@ freed-even w v e p n m x y = let h = e.over.has (in_tree p) n x in on (likes n m
 
 -- ---- a store and a state that it shows
 
-module _ (u : Store) (s : State) (h : Shows u s) where
+module _ {u : Store} {s : State} (h : Shows u s) where
   even : Even (world_of (state (trim u))) (world_of s)
   even = even-start (state (trim u)) s (lawful-shape (trim u) h.roomy.lawful) h.shaped h.alike
 

@@ -59,6 +59,7 @@ pub fn kind(words: &[u64], records: &[u64], heads: &[u64], spot: Spot) -> Kind
 }
 
 // The metadata of the entry at the spot.
+// kept: a function takes only the slices that it reads; these four go together nowhere else.
 pub fn stat(words: &[u64], records: &[u64], heads: &[u64], times: &[i64], spot: Spot) -> Stat
     ensures { OfEntry (still (with_words words.now ∘ with_records records.now ∘ with_heads heads.now ∘ with_times times.now)) spot
         (λ s p. says (stat? p) s ≡ some (stat_from result)) }

@@ -50,7 +50,7 @@ behind-run w d r s e =
     need-run (path_fits (q (answer (target? d) w))) path_too_long (ret (q (answer (target? d) w))) w
     ∙ ap (λ (o : Option Bytes). allowed (path_fits (q o)) path_too_long (done (q o) w)) e
 
-module _ (st : Store) (s : State) (w : World) (out : Bytes) (len : ℕ) (spot : Spot) (d e : ℕ) (h : len ≤ length out) (k : LinkAt st s w (take len out) spot d e) where
+module _ {st : Store} {s : State} {w : World} (out : Bytes) (len : ℕ) {spot : Spot} {d e : ℕ} (h : len ≤ length out) (k : LinkAt st s w (take len out) spot d e) where
   abbrev text : Bytes
   text = take len out
 

@@ -77,8 +77,8 @@ pub record Reached (st : Store) (s : State) (w : World) (text : Bytes) (spot : S
   pub dir : take u text ≡ body (drop_last here)
   pub same : run (until_symlink [] (names text)) w ≡ run (until_symlink here rest) w
 
-module _ (st : Store) (s : State) (w : World) (h : ℕ) (text : Bytes) where
-  pub no_root : (g : Gap) → count st ≡ 0 → answer (kind? []) w ≡ none → Meets st s w h text (Ok (Ends (Missing g 0)))
+module _ {st : Store} {s : State} {w : World} {text : Bytes} where
+  pub no_root : {h : ℕ} (g : Gap) → count st ≡ 0 → answer (kind? []) w ≡ none → Meets st s w h text (Ok (Ends (Missing g 0)))
   no_root g z e = record { answer = until_none w [] (names text) e; place = the_root refl z e }
 
   pub at-root : (spot : Spot) → Plain text → There st s w [] spot → Reached st s w text spot 0 0
@@ -95,7 +95,7 @@ module _ (st : Store) (s : State) (w : World) (h : ℕ) (text : Bytes) where
         same = refl;
       }
 
-  module _ (spot : Spot) (u e : ℕ) (r : Reached st s w text spot u e) where
+  module _ {spot : Spot} {u e : ℕ} (r : Reached st s w text spot u e) where
     abbrev kind : Option Kind
     kind = answer (kind? r.here) w
 
@@ -125,11 +125,11 @@ module _ (st : Store) (s : State) (w : World) (h : ℕ) (text : Bytes) where
           r.same ∙ ap (λ (x : List Name). run (until_symlink r.here x) w) (cut-end text e r.here r.rest r.cut l) ∙ until_end w r.here k z
           ∙ ap (λ (d : Path). done (ends (arrived d (some k))) w) (sym all)
 
-      pub at-last-link : kind ≡ some a_link → Meets st s w h text (Ok (Ends (LastLink spot u)))
+      pub at-last-link : {h : ℕ} → kind ≡ some a_link → Meets st s w h text (Ok (Ends (LastLink spot u)))
       unfolding arrived
       at-last-link k = record { answer = at-end a_link k; place = subst (LinkAt st s w text spot u) (omega (arith, r.fits, l)) (linked k) }
 
-      pub at_entry : (k : own.Kind) → (k ≡ is.Link → ⊥) → kind ≡ some (kind_from k) → Meets st s w h text (Ok (Ends (Found spot k)))
+      pub at_entry : {h : ℕ} (k : own.Kind) → (k ≡ is.Link → ⊥) → kind ≡ some (kind_from k) → Meets st s w h text (Ok (Ends (Found spot k)))
       at_entry k g z =
           record {
             answer = at-end (kind_from k) z ∙ ap (λ (x : End). done (ends x) w) (found-kind (names text) k g);
@@ -146,12 +146,12 @@ module _ (st : Store) (s : State) (w : World) (h : ℕ) (text : Bytes) where
       first-name (n ∷ m) z = (n, m, z)
 
       -- at what is no directory
-      pub at-file : kind ≡ some aFile → Meets st s w h text (Err NotDirectory)
+      pub at-file : {h : ℕ} → kind ≡ some aFile → Meets st s w h text (Err NotDirectory)
       at-file k =
           let f = first-name r.rest refl in
           record { answer = r.same ∙ ap (λ (x : List Name). run (until_symlink r.here x) w) f.2 ∙ until-file w r.here f.0 f.1 k; place = tt }
 
-      pub at-link : kind ≡ some a_link → Meets st s w h text (Ok (MidLink spot u e))
+      pub at-link : {h : ℕ} → kind ≡ some a_link → Meets st s w h text (Ok (MidLink spot u e))
       at-link k =
           let f = first-name r.rest refl in
           record {
@@ -169,9 +169,9 @@ module _ (st : Store) (s : State) (w : World) (h : ℕ) (text : Bytes) where
         onto : run (until_symlink [] (names text)) w ≡ run (until_symlink (r.here ++ (nx.name ∷ [])) nx.more) w
         onto = r.same ∙ ap (λ (x : List Name). run (until_symlink r.here x) w) nx.rest ∙ until-dir w r.here nx.name nx.more k
 
-        pub at-gone : (g : Gap) → answer (kind? (r.here ++ (part (e + 1) b text ∷ []))) w ≡ none → Vacant (trim st) h r.here (part (e + 1) b text) g
+        pub at-gone : {h : ℕ} (g : Gap) → answer (kind? (r.here ++ (part (e + 1) b text ∷ []))) w ≡ none → Vacant (trim st) h r.here (part (e + 1) b text) g
             → Meets st s w h text (Ok (Ends (Missing g e)))
-        at-gone g z v =
+        at-gone {h} g z v =
             let y : answer (kind? (r.here ++ (nx.name ∷ []))) w ≡ none = ap (λ (n : Name). answer (kind? (r.here ++ (n ∷ []))) w) (sym nx.is) ∙ z in
             record {
               answer = onto ∙ until_none w (r.here ++ (nx.name ∷ [])) nx.more y ∙ ap (λ (p : Path). done (ends (missing p)) w) (sym nx.cut.whole);

@@ -15,6 +15,7 @@ use layout::slices::Tree;
 use refusal::Refusal;
 
 // The path in out[..len] leads to an entry that is there, no link; NotFound: it does not.
+// kept: the buffer is lent by the caller, so the length of the path in front of it goes beside it.
 pub fn leads(
     tree: Tree,
     out: &mut [u8],
@@ -32,6 +33,7 @@ pub fn leads(
 }
 
 // find_directory_mut: the path in out[..len] leads to a directory; NotFound: missing, NotDirectory: a file.
+// kept: the buffer is lent by the caller, so the length of the path in front of it goes beside it.
 pub fn find_directory(
     tree: Tree,
     out: &mut [u8],
@@ -51,6 +53,7 @@ pub fn find_directory(
 
 // An entry, maybe a link, or the place of a missing one; the length is that of its directory's path, which now stands in front of the
 // buffer.
+// kept: it stands within a Result, whose Err is a refusal; a missing entry is none, and a Result in a Result is no plainer.
 #[derive(Clone, Copy)]
 pub enum Last {
     Found(There),
@@ -58,6 +61,7 @@ pub enum Last {
 }
 
 // The entry `name` of the directory to which the path in out[..len] leads, there or not; only that path is followed.
+// kept: the buffer is lent by the caller, so the length of the path in front of it goes beside it.
 pub fn last_entry(
     tree: Tree,
     out: &mut [u8],

@@ -21,6 +21,7 @@ pub enum End {
 }
 
 // Where a walk from the root came to.
+// kept: as the model's Met; neither variant is an error or nothing, so no Option or Result says it.
 #[derive(Clone, Copy)]
 pub enum Met {
     Ends(End),

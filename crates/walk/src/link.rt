@@ -10,6 +10,7 @@ use path_form::link::follow;
 
 // The path behind the link at the spot, to which out[..rest] leads and its directory's path out[..dir], takes the place of out[..len]:
 // the target seen from there, and then the rest.
+// kept: the buffer is lent by the caller, so the length of the path in front of it goes beside it.
 pub fn behind_link(
     tree: Tree,
     out: &mut [u8],

@@ -32,6 +32,7 @@ pub struct Absent {
 }
 
 // What a lookup through all links ends in.
+// kept: it stands within a Result, whose Err is a refusal; a missing entry is none, and a Result in a Result is no plainer.
 #[derive(Clone, Copy)]
 pub enum Looked {
     Found(There),
@@ -42,6 +43,7 @@ pub enum Looked {
 pub const MOST: usize = 40;
 
 // The path in out[..len], with the links before its last name followed. The root, record 0, is never hidden.
+// kept: the buffer is lent by the caller, so the length of the path in front of it goes beside it.
 pub fn lookup_entry_detail_no_follow(
     tree: Tree,
     out: &mut [u8],
@@ -70,6 +72,7 @@ pub fn lookup_entry_detail_no_follow(
 
 // The path in out[..len], with all its links followed; of last links as many as the bound, the number of links in the tree. The root,
 // record 0, is never hidden.
+// kept: the buffer is lent by the caller, so the length of the path in front of it goes beside it.
 pub fn lookup_entry_detail(
     tree: Tree,
     out: &mut [u8],

@@ -2,14 +2,8 @@
 -- Assumes nothing.
 use mathlib.Core.Path.{refl, sym, ◌∙◌}
 use Rattle.model.specs.Prog.{stat?}
-use Rattle.edit_room.specs.Extents.{trim}
-use Rattle.layout.specs.Lent.{◌∘◌, with_words, with_records, with_heads, with_times}
 use Rattle.store.proofs.Asked.{told}
 use Rattle.store.proofs.stat.Goals as goal
 
 pub returns : goal.returns
-returns c =
-    λ st s h p a.
-    let g = c.args in
-    let u = (with_words g.words.now ∘ with_records g.records.now ∘ with_heads g.heads.now ∘ with_times g.times.now) st in
-    sym (told u s h (stat? p)) ∙ c.entry_stat.ensures (trim u) refl (sym c.in_use.ensures) refl h.roomy.lawful p a
+returns c = λ st s h p a. sym (told _ s h (stat? p)) ∙ c.entry_stat.ensures _ refl (sym c.in_use.ensures) refl h.roomy.lawful p a

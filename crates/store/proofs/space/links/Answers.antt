@@ -2,7 +2,6 @@
 -- Assumes nothing.
 use mathlib.Core.Path.{refl, sym, ◌∙◌}
 use Rattle.edit_room.specs.Extents.{trim}
-use Rattle.layout.specs.Lent.{◌∘◌, with_words, with_records, with_heads}
 use Rattle.store.proofs.Spaced.{links-told}
 use Rattle.store.proofs.space.links.Goals as goal
 
@@ -10,8 +9,4 @@ pub links_in-requires : goal.links_in-requires
 links_in-requires c = let p = c.requires in record { store = trim _; records = refl; heads = sym c.in_use.ensures; counted = refl; lawful = p.2.roomy.lawful }
 
 pub returns : goal.returns
-returns c =
-    λ st s h.
-    let g = c.args in
-    let u = (with_words g.words.now ∘ with_records g.records.now ∘ with_heads g.heads.now) st in
-    c.links_in.ensures (trim u) refl (sym c.in_use.ensures) refl h.roomy.lawful ∙ links-told u s h
+returns c = λ st s h. c.links_in.ensures _ refl (sym c.in_use.ensures) refl h.roomy.lawful ∙ links-told h

@@ -4,7 +4,6 @@
 use mathlib.Core.Bool.{Bool, cond}
 use mathlib.Core.Path.{refl, sym, ap}
 use Rattle.edit_room.specs.Extents.{trim}
-use Rattle.layout.specs.Lent.{◌∘◌, with_words, with_records, with_heads}
 use Rattle.store.proofs.Spaced.{weight-told}
 use Rattle.store.proofs.space.weigh.Goals as goal
 
@@ -20,15 +19,11 @@ weigh-w-requires c =
 pub returns-then-w : goal.returns-then-w
 returns-then-w c =
     λ st s h p a.
-    let g = c.args in
-    let u = (with_words g.words.now ∘ with_records g.records.now ∘ with_heads g.heads.now) st in
     let r = c.weigh-w.result in
-    weight-told u s h p r _ (c.weigh-w.ensures (trim u) refl refl (sym c.in_use.ensures) h.roomy.lawful p a) (ap (λ (b : Bool). cond b 0 r.size) c.if-w.true)
+    weight-told h p r _ (c.weigh-w.ensures _ refl refl (sym c.in_use.ensures) h.roomy.lawful p a) (ap (λ (b : Bool). cond b 0 r.size) c.if-w.true)
 
 pub returns-else-w : goal.returns-else-w
 returns-else-w c =
     λ st s h p a.
-    let g = c.args in
-    let u = (with_words g.words.now ∘ with_records g.records.now ∘ with_heads g.heads.now) st in
     let r = c.weigh-w.result in
-    weight-told u s h p r _ (c.weigh-w.ensures (trim u) refl refl (sym c.in_use.ensures) h.roomy.lawful p a) (ap (λ (b : Bool). cond b 0 r.size) c.if-w.false)
+    weight-told h p r _ (c.weigh-w.ensures _ refl refl (sym c.in_use.ensures) h.roomy.lawful p a) (ap (λ (b : Bool). cond b 0 r.size) c.if-w.false)

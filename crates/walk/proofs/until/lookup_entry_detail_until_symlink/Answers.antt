@@ -27,43 +27,25 @@ first c = let p = c.requires.0 in let w = some_asked (with_tree c.args.tree p.0)
 -- the entry that was come to is a directory
 is-dir : (c : In-Directory) → let u = with_tree c.args.tree in
     (st : Store) (s : State) (w : World) (x : Shows (u st) s) (y : Asked (u st) s c.args.hidden w) → answer (kind? (c.loop-e.invariant st s w x y).here) w ≡ some a_dir
-is-dir c st s w x y =
-    let a = c.args in let u = with_tree a.tree st in let l = c.loop-e in let r = l.invariant st s w x y in
-    kind-is u s w a.hidden a.path.now l.spot l.dir l.e r a_dir (c.in-Directory.ensures u s x r.here r.there.at)
+is-dir c st s w x y = let r = c.loop-e.invariant st s w x y in kind-is r a_dir (c.in-Directory.ensures (with_tree c.args.tree st) s x r.here r.there.at)
 
 pub returns-in-Err : goal.returns-in-Err
-returns-in-Err c =
-    λ st s x w y.
-    let a = c.args in let u = with_tree a.tree st in
-    let m = c.in-Err.ensures u s x in
-    no_root u s w a.hidden a.path.now _ m.1 (never u s a.hidden w y m.0 m.1)
+returns-in-Err c = λ st s x w y. let m = c.in-Err.ensures (with_tree c.args.tree st) s x in no_root _ m.1 (never _ s c.args.hidden w y m.0 m.1)
 
 pub loop-e-init : goal.loop-e-init
-loop-e-init c =
-    λ st s w x y.
-    let a = c.args in let u = with_tree a.tree st in
-    at-root u s w a.hidden a.path.now _ c.requires.1 (root_there u s x _ (c.in-Ok.ensures u s x) a.hidden w c.requires.2 y)
+loop-e-init c = λ st s w x y. at-root _ c.requires.1 (root_there _ s x _ (c.in-Ok.ensures (with_tree c.args.tree st) s x) c.args.hidden w c.requires.2 y)
 
 pub returns-in-File : goal.returns-in-File
-returns-in-File c =
-    λ st s x w y.
-    let a = c.args in let u = with_tree a.tree st in let l = c.loop-e in let r = l.invariant st s w x y in
-    at-file u s w a.hidden a.path.now l.spot l.dir l.e r c.loop-e-test.true
-    (kind-is u s w a.hidden a.path.now l.spot l.dir l.e r aFile (c.in-File.ensures u s x r.here r.there.at))
+returns-in-File c = λ st s x w y. let r = c.loop-e.invariant st s w x y in at-file r c.loop-e-test.true (kind-is r aFile (c.in-File.ensures (with_tree c.args.tree st) s x r.here r.there.at))
 
 pub returns-in-Link : goal.returns-in-Link
-returns-in-Link c =
-    λ st s x w y.
-    let a = c.args in let u = with_tree a.tree st in let l = c.loop-e in let r = l.invariant st s w x y in
-    at-link u s w a.hidden a.path.now l.spot l.dir l.e r c.loop-e-test.true
-    (kind-is u s w a.hidden a.path.now l.spot l.dir l.e r a_link (c.in-Link.ensures u s x r.here r.there.at))
+returns-in-Link c = λ st s x w y. let r = c.loop-e.invariant st s w x y in at-link r c.loop-e-test.true (kind-is r a_link (c.in-Link.ensures (with_tree c.args.tree st) s x r.here r.there.at))
 
 pub piece_end-b-requires : goal.piece_end-b-requires
 piece_end-b-requires c =
-    let p = c.requires.0 in let a = c.args in let u = with_tree a.tree p.0 in let l = c.loop-e in let t = c.loop-e-test.true in (
+    let l = c.loop-e in let t = c.loop-e-test.true in (
       omega (arith, t),
-      λ _. (let z : l.e + 1 - 1 ≡ l.e = omega arith in ap (λ (k : ℕ). get_or a.path.now k 0) z
-          ∙ at-slash u p.1 (some_asked u p.1 a.hidden).0 a.hidden a.path.now l.spot l.dir l.e (first (goal.at.piece_end-b-requires c).At-loop-e) t),
+      λ _. (let z : l.e + 1 - 1 ≡ l.e = omega arith in ap (λ (k : ℕ). get_or c.args.path.now k 0) z ∙ at-slash (first (goal.at.piece_end-b-requires c).At-loop-e) t),
     )
 
 pub child-requires : goal.child-requires
@@ -72,28 +54,26 @@ child-requires c = let p = c.requires.0 in let r = first (goal.at.child-requires
 pub returns-in-Err-child : goal.returns-in-Err-child
 returns-in-Err-child c =
     λ st s x w y.
-    let a = c.args in let u = with_tree a.tree st in let l = c.loop-e in let q = c.piece_end-b in let r = l.invariant st s w x y in
+    let r = c.loop-e.invariant st s w x y in
     let d = is-dir (goal.at.returns-in-Err-child c).In-Directory st s w x y in
-    let f = c.in-Err-child.ensures u s x r.here w r.there.at y d in
-    at-gone u s w a.hidden a.path.now l.spot l.dir l.e r c.loop-e-test.true q.result q.ensures d c.in-Err-child.g f.0 f.1
+    let f = c.in-Err-child.ensures (with_tree c.args.tree st) s x r.here w r.there.at y d in
+    at-gone r c.loop-e-test.true _ c.piece_end-b.ensures d _ f.0 f.1
 
 pub loop-e-preserved : goal.loop-e-preserved
 loop-e-preserved c =
     λ st s w x y.
-    let a = c.args in let u = with_tree a.tree st in let l = c.loop-e in let q = c.piece_end-b in let r = l.invariant st s w x y in
+    let r = c.loop-e.invariant st s w x y in
     let d = is-dir (goal.at.loop-e-preserved c).In-Directory st s w x y in
-    at_next u s w a.hidden a.path.now l.spot l.dir l.e r c.loop-e-test.true q.result q.ensures d c.in-Ok-child.s (c.in-Ok-child.ensures u s x r.here w r.there.at y d)
+    at_next r c.loop-e-test.true _ c.piece_end-b.ensures d _ (c.in-Ok-child.ensures (with_tree c.args.tree st) s x r.here w r.there.at y d)
 
 pub returns-in-Link-kind : goal.returns-in-Link-kind
 returns-in-Link-kind c =
     λ st s x w y.
-    let a = c.args in let u = with_tree a.tree st in let l = c.loop-e in let r = l.invariant st s w x y in
-    at-last-link u s w a.hidden a.path.now l.spot l.dir l.e r (omega (arith, c.loop-e-test.false))
-    (kind-is u s w a.hidden a.path.now l.spot l.dir l.e r a_link (c.in-Link-kind.ensures u s x r.here r.there.at))
+    let r = c.loop-e.invariant st s w x y in
+    at-last-link r (omega (arith, c.loop-e-test.false)) (kind-is r a_link (c.in-Link-kind.ensures (with_tree c.args.tree st) s x r.here r.there.at))
 
 pub returns-in_default : goal.returns-in_default
 returns-in_default c =
     λ st s x w y.
-    let a = c.args in let u = with_tree a.tree st in let l = c.loop-e in let r = l.invariant st s w x y in let k = c.kind-2 in
-    at_entry u s w a.hidden a.path.now l.spot l.dir l.e r (omega (arith, c.loop-e-test.false)) k.result c.in_default.not-Link
-    (kind-is u s w a.hidden a.path.now l.spot l.dir l.e r (kind_from k.result) (k.ensures u s x r.here r.there.at))
+    let r = c.loop-e.invariant st s w x y in let k = c.kind-2 in
+    at_entry r (omega (arith, c.loop-e-test.false)) k.result c.in_default.not-Link (kind-is r (kind_from k.result) (k.ensures (with_tree c.args.tree st) s x r.here r.there.at))
