@@ -27,7 +27,7 @@ use Rattle.store.specs.Shows.{Shows, Asked, Some}
 use Rattle.walk.specs.declared.End.{End}
 use Rattle.walk.specs.declared.Met.{Met}
 use Rattle.walk.specs.declared.Met.TheVariants.{Ends, MidLink}
-use Rattle.walk.specs.Meets.{Plain, means, end_of, LinkAt, Meets}
+use Rattle.walk.specs.Meets.{Plain, PathIn, means, end_of, LinkAt, Meets}
 use Rattle.walk.specs.Lookups.{behind, Kept, Follows, SomeLink, Walks}
 use Rattle.walk.proofs.Rooted.{some_asked}
 
@@ -143,8 +143,8 @@ pub record Going (has : Store → Store) (h : ℕ) (text first out : Bytes) (n k
   pub few : k ≤ 40
   pub passed : All has h (λ st s w. Passed w text out n k)
 
-pub go-start : (has : Store → Store) (h : ℕ) (out : Bytes) (n : ℕ) → n ≤ 1024 → Plain (take n out) → Going has h (take n out) out out n 0
-go-start has h out n f p = record { fits = f; long = refl; plain = p; few = omega arith; passed = λ st s y w a. pass-start w out n }
+pub go-start : (has : Store → Store) (h : ℕ) (out : Bytes) (n : ℕ) → PathIn out n → Going has h (take n out) out out n 0
+go-start has h out n p = record { fits = p.few; long = refl; plain = p.plain; few = omega arith; passed = λ st s y w a. pass-start w out n }
 
 module _ {has : Store → Store} {h : ℕ} {text first out : Bytes} {n k : ℕ} (g : Going has h text first out n k) where
   pub go-stopped : (r : Refusal) → All has h (λ st s w. Meets st s w h (take n out) (Err r)) → (after : Bytes) → All has h (λ st s w. Walks st s w h text after (Err r))

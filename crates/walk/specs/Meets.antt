@@ -29,6 +29,12 @@ use Rattle.walk.specs.declared.Met.TheVariants.{Ends, MidLink}
 abbrev pub Plain : Bytes → Type 0
 Plain s = body (names s) ≡ s
 
+-- such a path stands in front of a working buffer
+pub record PathIn (out : Bytes) (len : ℕ) : Type 0 where
+  pub few : len ≤ 1024
+  pub room : 1024 ≤ length out
+  pub plain : Plain (take len out)
+
 -- what each end stands for, where the path is the text
 abbrev pub end_of : Bytes → End → model.End
 end_of text (Found spot k) = found (names text) (kind_from k)

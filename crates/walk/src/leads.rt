@@ -1,10 +1,10 @@
 // From a path to what is there: the entry that it leads to, the directory (find_directory_mut), and the entry of its last name.
-ghost use Rattle.std.specs.Prelude.{◌≤◌, ◌<◌, length, take};
+ghost use Rattle.std.specs.Prelude.{◌≤◌, ◌<◌, take};
 ghost use Rattle.model.specs.Operations.Steps as steps;
 ghost use Rattle.layout.specs.Numbers.{most_entries};
 ghost use Rattle.layout.specs.Lent.{with_tree, still};
 ghost use Rattle.store.specs.Shows.{Some};
-ghost use Rattle.walk.specs.Meets.{Plain};
+ghost use Rattle.walk.specs.Meets.{PathIn};
 ghost use Rattle.walk.specs.Leads.{LeadsIn, LastIn};
 
 use crate::There;
@@ -23,7 +23,7 @@ pub fn leads(
     hidden: usize,
     bound: usize,
 ) -> Result<There, Refusal>
-    requires { Some (with_tree tree) × (len ≤ 1024) × (1024 ≤ length out.old) × Plain (take len out.old) × (bound ≤ most_entries) × (0 < hidden) }
+    requires { Some (with_tree tree) × PathIn out.old len × (bound ≤ most_entries) × (0 < hidden) }
     ensures { LeadsIn (still (with_tree tree.entry)) (steps.leads bound) (take len out.old) hidden out.new result }
 {
     match lookup_entry_detail(tree, out, len, hidden, bound)? {
@@ -41,7 +41,7 @@ pub fn find_directory(
     hidden: usize,
     bound: usize,
 ) -> Result<There, Refusal>
-    requires { Some (with_tree tree) × (len ≤ 1024) × (1024 ≤ length out.old) × Plain (take len out.old) × (bound ≤ most_entries) × (0 < hidden) }
+    requires { Some (with_tree tree) × PathIn out.old len × (bound ≤ most_entries) × (0 < hidden) }
     ensures { LeadsIn (still (with_tree tree.entry)) (steps.directory bound) (take len out.old) hidden out.new result }
 {
     let there = leads(tree, out, len, hidden, bound)?;
@@ -70,7 +70,7 @@ pub fn last_entry(
     hidden: usize,
     bound: usize,
 ) -> Result<Last, Refusal>
-    requires { Some (with_tree tree) × (len ≤ 1024) × (1024 ≤ length out.old) × Plain (take len out.old) × (bound ≤ most_entries) × (0 < hidden) }
+    requires { Some (with_tree tree) × PathIn out.old len × (bound ≤ most_entries) × (0 < hidden) }
     ensures { LastIn (still (with_tree tree.entry)) (take len out.old) name.now hidden bound out.new result }
 {
     let dir = find_directory(tree, out, len, hidden, bound)?;

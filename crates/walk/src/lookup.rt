@@ -1,9 +1,9 @@
 // lookup_entry_detail_no_follow and lookup_entry_detail.
-ghost use Rattle.std.specs.Prelude.{◌≤◌, ◌<◌, length, take};
+ghost use Rattle.std.specs.Prelude.{◌≤◌, ◌<◌, take};
 ghost use Rattle.layout.specs.Numbers.{most_entries};
 ghost use Rattle.layout.specs.Lent.{with_tree, still};
 ghost use Rattle.store.specs.Shows.{Some};
-ghost use Rattle.walk.specs.Meets.{Plain};
+ghost use Rattle.walk.specs.Meets.{PathIn};
 ghost use Rattle.walk.specs.Lookups.{WalksIn, LooksIn};
 
 use crate::link::behind_link;
@@ -50,7 +50,7 @@ pub fn lookup_entry_detail_no_follow(
     len: usize,
     hidden: usize,
 ) -> Result<Walked, Refusal>
-    requires { Some (with_tree tree) × (len ≤ 1024) × (1024 ≤ length out.old) × Plain (take len out.old) × (0 < hidden) }
+    requires { Some (with_tree tree) × PathIn out.old len × (0 < hidden) }
     ensures { WalksIn (still (with_tree tree.entry)) (take len out.old) hidden out.new result }
 {
     let mut n = len;
@@ -80,7 +80,7 @@ pub fn lookup_entry_detail(
     hidden: usize,
     bound: usize,
 ) -> Result<Looked, Refusal>
-    requires { Some (with_tree tree) × (len ≤ 1024) × (1024 ≤ length out.old) × Plain (take len out.old) × (bound ≤ most_entries) × (0 < hidden) }
+    requires { Some (with_tree tree) × PathIn out.old len × (bound ≤ most_entries) × (0 < hidden) }
     ensures { LooksIn (still (with_tree tree.entry)) (take len out.old) hidden bound out.new result }
 {
     let mut left = bound;

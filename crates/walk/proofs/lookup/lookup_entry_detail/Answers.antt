@@ -15,7 +15,7 @@ low : (c : In_ok-w) → (c.in_ok-w.w.links ≤ 40) × (c.in_ok-w.w.len ≤ 1024)
 low c = walks-few c.requires.0 c.in_ok-w.ensures
 
 within : (c : In_ok-w) → c.in_ok-w.w.len ≤ length c.lookup_entry_detail_no_follow.new.out
-within c = omega (arith, (low c).1, c.loop-w.invariant.long, c.requires.2)
+within c = omega (arith, (low c).1, c.loop-w.invariant.long, c.requires.1.room)
 
 -- one more last link may be followed
 some_left : (c : Else-left-eq0) → 0 < c.loop-w.left
@@ -44,7 +44,7 @@ behind_link-requires c =
     let w = (goal.at.behind_link-requires c).In_ok-w in (
       some_link (with_tree c.args.tree) c.args.hidden _ _ _ _ c.requires.0 (chain_link c.loop-w.invariant _ _ c.in_ok-w.ensures _ _ c.in-LastLink.is (within w)),
       (low w).1,
-      omega (arith, c.loop-w.invariant.long, c.requires.2),
+      omega (arith, c.loop-w.invariant.long, c.requires.1.room),
     )
 
 pub returns-in_err-n-in-LastLink : goal.returns-in_err-n-in-LastLink

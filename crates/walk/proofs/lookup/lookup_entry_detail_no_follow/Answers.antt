@@ -29,7 +29,7 @@ behind_link-requires c =
     let l = c.loop-end.invariant in (
       some_link (with_tree c.args.tree) c.args.hidden _ _ _ _ c.requires.0 (go-link l _ c.in_ok-end.ensures _ _ _ c.in-MidLink.is),
       l.fits,
-      omega (arith, l.long, c.requires.2),
+      omega (arith, l.long, c.requires.1.room),
     )
 
 pub returns-in_err-n-in-MidLink : goal.returns-in_err-n-in-MidLink
