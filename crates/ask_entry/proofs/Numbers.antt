@@ -72,6 +72,10 @@ module _ (st : Store) (l : Lawful st) (n : ℕ) (h : n < 32) where
 abbrev pub word_of : List ℕ → ℕ → ℕ → ℕ
 word_of ws n i = cond (ltb n 32) (get_or ws (i + 3 * n) 0) 0
 
+-- by the words that were read
+pub word-by : {ws : List ℕ} (st : Store) (n i : ℕ) {h : ℕ} → st.words ≡ ws → h ≡ word_of ws n i → h ≡ word_of st.words n i
+word-by st n i e f = f ∙ ap (λ (us : List ℕ). word_of us n i) (sym e)
+
 pub word_low : (ws : List ℕ) (n i : ℕ) → n < 32 → word_of ws n i ≡ get_or ws (i + 3 * n) 0
 word_low ws n i h = ap (λ (b : Bool). cond b (get_or ws (i + 3 * n) 0) 0) (lt-ltb n 32 h)
 
@@ -92,7 +96,7 @@ module _ (st : Store) (l : Lawful st) (n : ℕ) where
       go none z y = clash none o refl y
       go (some x) z y = let f = open-found st 32 0 n x z in (omega (arith, f.high), f.holds)
 
-  module _ (h : ℕ) (e : h ≡ word_of st.words n 5) where
+  module _ {h : ℕ} (e : h ≡ word_of st.words n 5) where
     pub number-closed : h ≡ 0 → answer (open? n) (world_in st) ≡ none
     number-closed z = go (answer (open? n) (world_in st)) refl
       where

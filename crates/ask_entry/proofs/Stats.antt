@@ -113,9 +113,9 @@ module _ (st : Store) (l : Lawful st) where
 
   -- ---- the entry at a spot, whose slot is k
 
-  module _ (s : Spot) (p : Path) (a : At st s p) (k : ℕ) (z : k ≡ slot_at st s.at) where
-    pub spot-kind : (h : ℕ) (r : shown.Kind) → h ≡ get_or st.heads k 0 → kind_from r ≡ kind_by (fields.kind_of h) → answer (kind? p) world ≡ some (kind_from r)
-    spot-kind h r e f =
+  module _ {s : Spot} {p : Path} (a : At st s p) {k : ℕ} (z : k ≡ slot_at st s.at) where
+    pub spot-kind : {h : ℕ} (r : shown.Kind) → h ≡ get_or st.heads k 0 → kind_from r ≡ kind_by (fields.kind_of h) → answer (kind? p) world ≡ some (kind_from r)
+    spot-kind r e f =
         ap (λ (q : Path). answer (kind? q) world) (sym a.path) ∙ kind-told s.at a.within
         ∙ ap (λ (m : ℕ). some (kind_by (kind_at st m))) (sym z) ∙ ap (λ (m : ℕ). some (kind_by (fields.kind_of m))) (sym e) ∙ ap some (sym f)
 
@@ -128,5 +128,5 @@ module _ (st : Store) (l : Lawful st) where
         subst (λ (q : Path). Contents (world_in st) q u) a.path (subst (λ (b : Bytes). Contents (world_in st) (path_at st s.at) b) (sym (e ∙ ap (bytes_at st) z)) (contents-told s.at a.within))
 
 -- the slot of a record, by the records that were read
-pub slot-by : (ws : List ℕ) (st : Store) (i w k : ℕ) → st.records ≡ ws → w ≡ get_or ws i 0 → k ≡ slot_of w → k ≡ slot_at st i
-slot-by ws st i w k e f g = g ∙ ap slot_of (f ∙ ap (λ (us : List ℕ). get_or us i 0) (sym e))
+pub slot-by : {ws : List ℕ} (st : Store) (i : ℕ) {w k : ℕ} → st.records ≡ ws → w ≡ get_or ws i 0 → k ≡ slot_of w → k ≡ slot_at st i
+slot-by st i e f g = g ∙ ap slot_of (f ∙ ap (λ (us : List ℕ). get_or us i 0) (sym e))

@@ -10,6 +10,4 @@ pub returns : goal.returns
 returns c =
     λ st e f h l p a.
     let g = c.args in
-    let k = c.slot_of.result in
-    spot-contents st l g.spot p a k (slot-by g.records.now st g.spot.at c.at.result k e c.at.ensures c.slot_of.ensures)
-    _ (c.slot_bytes.ensures ∙ (λ j. get_or (contents (sym f j) (sym h j)) k []))
+    spot-contents st l a (slot-by st g.spot.at e c.at.ensures c.slot_of.ensures) _ (c.slot_bytes.ensures ∙ (λ j. get_or (contents (sym f j) (sym h j)) c.slot_of.result []))

@@ -10,6 +10,4 @@ pub returns : goal.returns
 returns c =
     λ st e f l p a.
     let g = c.args in
-    let k = c.slot_of-k.result in
-    spot-kind st l g.spot p a k (slot-by g.records.now st g.spot.at c.at.result k e c.at.ensures c.slot_of-k.ensures)
-    c.at-2.result c.kind_in.result (c.at-2.ensures ∙ ap (λ (us : List ℕ). get_or us k 0) (sym f)) c.kind_in.ensures
+    spot-kind st l a (slot-by st g.spot.at e c.at.ensures c.slot_of-k.ensures) _ (c.at-2.ensures ∙ ap (λ (us : List ℕ). get_or us c.slot_of-k.result 0) (sym f)) c.kind_in.ensures
