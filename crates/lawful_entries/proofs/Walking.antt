@@ -1,15 +1,17 @@
--- The walk over the records: the path of an entry is what the numbers of its depth say, and one step of the walk is one entry.
+-- The walk over the records: the path of an entry is what the spans of its depth say, and one step of the walk is one entry.
 -- Assumes nothing.
 use mathlib.Core.Bool.{Bool, true, false, ◌&&◌, cond, not}
 use mathlib.Core.List.{List, [], ◌∷◌, ◌++◌}
-use mathlib.Core.Path.{◌≡◌, refl, sym, ap, ◌∙◌}
+use mathlib.Core.Path.{◌≡◌, refl, sym, ap, ◌∙◌, subst}
 use Prim.Native.Nat.{ℕ, zero, suc, ◌+◌, ◌-◌, ◌*◌, ◌/◌, ◌%◌, ◌≤◌, ◌<◌}
 use native.Mathlib.Numerals.{add-one}
 use native.Mathlib.Omega.{arith}
 use lib.Dec.{eqb, ltb}
-use lib.ListN.{length, take, drop, get_or, set, length-set}
-use lib.Seq.{take-take, take-suc-set, get_or-take, length-take-le, get_or-set_same, get_or-set_other}
-use borrow.Author.Tests.{lt-ltb, le-ltb, eq-eqb, ne_eqb, ltb-true, eqb-true, eqb-false}
+use lib.ListN.{length, take, drop, get_or, set}
+use lib.Seq.{take-take, take-suc-set, length-take-le}
+use borrow.Author.Tests.{lt-ltb, le-ltb, ne_eqb, ltb-true, eqb-true}
+use Rattle.std.proofs.lemmas.List.{length-map, take-map, map_push}
+use Rattle.std.proofs.lemmas.List.Elements.{All-nil, All-same, All-push, All-take}
 use Rattle.text.specs.Utf8.{Bytes}
 use Rattle.path.specs.Path.{Name, vanishes, is_up}
 use Rattle.path.specs.Backward.{kind_by, kind_of}
@@ -19,96 +21,28 @@ use Rattle.model.specs.Prog.{is_nil}
 use Rattle.layout.specs.Fields.{depth_of, nlen_of, slot_of}
 use Rattle.layout.specs.Rows.{Row, rows, name_total, path_by, path_of}
 use Rattle.layout.specs.Lawful.{follows}
-use Rattle.lawful_entries.specs.Fits.{kind_in, form_ok, entry_fits, walk_fits, rows_fit, row_at, name_at, spell, Spelt}
+use Rattle.lawful_entries.specs.declared.span.Span.{Span}
+use Rattle.lawful_entries.specs.Fits.{kind_in, form_ok, entry_fits, walk_fits, rows_fit, row_at, name_at, Within, spell, Spelt}
 use Rattle.lawful_entries.proofs.Looking.{and_true_left, and_true_right, rows_at, rows_end, total_at}
 
--- ---- the path that numbers say
+-- ---- the path that spans say
 
-spell-length : (bs : Bytes) (vs : List ℕ) → length (spell bs vs) ≡ length vs
-unfolding spell
-spell-length bs [] = refl
-spell-length bs (v ∷ vs) = ap suc (spell-length bs vs)
+module _ (bs : Bytes) (last : List Span) (d : ℕ) where
+  path-length : d ≤ length last → length (spell bs (take d last)) ≡ d
+  path-length l = simp length-map (length-take-le d last l)
 
-spell_at : (bs : Bytes) (vs : List ℕ) (k : ℕ) → k < length vs → get_or (spell bs vs) k [] ≡ name_at bs (get_or vs k 0)
-unfolding spell
-spell_at bs [] k h = absurd (omega arith)
-spell_at bs (v ∷ vs) zero h = refl
-spell_at bs (v ∷ vs) (suc k) h = spell_at bs vs k (omega arith)
-
-spell-take : (bs : Bytes) (vs : List ℕ) (k : ℕ) → take k (spell bs vs) ≡ spell bs (take k vs)
-unfolding spell
-spell-take bs vs zero = refl
-spell-take bs [] (suc k) = refl
-spell-take bs (v ∷ vs) (suc k) = ap (λ (p : Path). name_at bs v ∷ p) (spell-take bs vs k)
-
-spell-append : (bs : Bytes) (us vs : List ℕ) → spell bs (us ++ vs) ≡ spell bs us ++ spell bs vs
-unfolding spell
-spell-append bs [] vs = refl
-spell-append bs (u ∷ us) vs = ap (λ (p : Path). name_at bs u ∷ p) (spell-append bs us vs)
-
--- the number of a name
-number-name : (bs : Bytes) (off n : ℕ) → n < 256 → name_at bs (off * 256 + n) ≡ take n (drop off bs)
-number-name bs off n h =
-    let a : (off * 256 + n) % 256 ≡ n = omega arith in
-    let b : (off * 256 + n) / 256 ≡ off = omega arith in
-    rw (a, b)
-
--- ---- the path of the next entry
-
-module _ (bs : Bytes) (last : List ℕ) (d : ℕ) (l : d ≤ length last) where
-  pub path-length : length (spell bs (take d last)) ≡ d
-  path-length = spell-length bs (take d last) ∙ length-take-le d last l
-
-  -- a name of the path before
-  path-at : (k : ℕ) → k < d → get_or (spell bs (take d last)) k [] ≡ name_at bs (get_or last k 0)
-  path-at k h = spell_at bs (take d last) k (omega (arith, length-take-le d last l)) ∙ ap (name_at bs) (get_or-take d last k 0 h)
+  -- the first names of it, and one more
+  front_more : (k : ℕ) (v : Span) → k ≤ d → k < length last → take (suc k) (set last k v) ≡ take k (take d last) ++ (v ∷ [])
+  front_more k v a h = take-suc-set last k v h ∙ ap (λ (x : List Span). x ++ (v ∷ [])) (sym (take-take k d last a))
 
   -- as many names of it as the entry has directories below the root, and its own
-  pub path_next : (dep off n : ℕ) → 1 ≤ dep → dep ≤ d + 1 → dep ≤ length last → n < 256
-      → path_by dep (spell bs (take d last)) (take n (drop off bs)) ≡ spell bs (take dep (set last (dep - 1) (off * 256 + n)))
-  unfolding spell
-  path_next zero off n a b m h = absurd (omega arith)
-  path_next (suc k) off n a b m h =
-      let z : suc k - 1 ≡ k = omega arith in
-      let v = off * 256 + n in
-      let x : take k (spell bs (take d last)) ≡ spell bs (take k last) = spell-take bs (take d last) k ∙ ap (spell bs) (take-take k d last (omega arith)) in
-      let y : take (suc k) (set last (suc k - 1) v) ≡ take k last ++ (v ∷ []) = ap (λ (i : ℕ). take (suc k) (set last i v)) z ∙ take-suc-set last k v (omega arith) in
-      ap (λ (p : Path). p ++ (take n (drop off bs) ∷ [])) x ∙ ap (λ (m : Name). spell bs (take k last) ++ (m ∷ [])) (sym (number-name bs off n h))
-      ∙ sym (ap (spell bs) y ∙ spell-append bs (take k last) (v ∷ []))
+  path_next : (k off n : ℕ) (v : Span) → k ≤ d → k < length last → name_at bs v ≡ take n (drop off bs)
+      → take k (spell bs (take d last)) ++ (take n (drop off bs) ∷ []) ≡ spell bs (take (suc k) (set last k v))
+  path_next k off n v a h e = sym (ap (spell bs) (front_more k v a h) ∙ map_push (name_at bs) (take k (take d last)) v ∙ rw (take-map (name_at bs) k (take d last), e))
 
-  -- where the entry stands
-  module _ (dir : Bool) (x : Name) where
-    pub follows-root : (dep : ℕ) → dep ≡ 0 → false ≡ follows (spell bs (take d last)) dir dep x
-    follows-root dep e = rw e
-
-    pub follows-beside : (dep : ℕ) (a e : ℕ) → (dep ≡ 0 → ⊥) → dep - 1 < d → a ≡ get_or last (dep - 1) 0 / 256 → e ≡ a + get_or last (dep - 1) 0 % 256
-        → precedes (take (e - a) (drop a bs)) x ≡ follows (spell bs (take d last)) dir dep x
-    follows-beside zero a e z h p q = absurd (z refl)
-    follows-beside (suc k) a e z h p q =
-        let y : suc k - 1 ≡ k = omega arith in
-        let v = get_or last (suc k - 1) 0 in
-        let n : e - a ≡ v % 256 = omega arith in
-        let s : take (e - a) (drop a bs) ≡ name_at bs v = ap (λ (i : ℕ). take i (drop a bs)) n ∙ ap (λ (i : ℕ). take (v % 256) (drop i bs)) p in
-        let u : name_at bs v ≡ get_or (spell bs (take d last)) k [] = ap (λ (i : ℕ). name_at bs (get_or last i 0)) y ∙ sym (path-at k (omega arith)) in
-        let t : ltb k (length (spell bs (take d last))) ≡ true = lt-ltb k (length (spell bs (take d last))) (omega (arith, path-length)) in
-        ap (λ (m : Name). precedes m x) (s ∙ u)
-        ∙ ap (λ (b : Bool). cond b (precedes (get_or (spell bs (take d last)) k []) x) (eqb k (length (spell bs (take d last))) && dir)) (sym t)
-
-    deeper : (k : ℕ) → d ≤ k → follows (spell bs (take d last)) dir (suc k) x ≡ eqb k (length (spell bs (take d last))) && dir
-    deeper k h = ap (λ (b : Bool). cond b (precedes (get_or (spell bs (take d last)) k []) x) (eqb k (length (spell bs (take d last))) && dir))
-        (le-ltb k (length (spell bs (take d last))) (omega (arith, path-length)))
-
-    pub follows-deep : (dep : ℕ) → (dep ≡ 0 → ⊥) → d ≤ dep - 1 → (dep - 1 ≡ d → ⊥) → false ≡ follows (spell bs (take d last)) dir dep x
-    follows-deep zero z h n = absurd (z refl)
-    follows-deep (suc k) z h n =
-        let y : suc k - 1 ≡ k = omega arith in
-        sym (deeper k (omega arith) ∙ ap (λ (b : Bool). b && dir) (ne_eqb k (length (spell bs (take d last))) (λ e. n (y ∙ e ∙ path-length))))
-
-    pub follows-first : (dep : ℕ) → (dep ≡ 0 → ⊥) → dep - 1 ≡ d → dir ≡ follows (spell bs (take d last)) dir dep x
-    follows-first zero z n = absurd (z refl)
-    follows-first (suc k) z n =
-        let y : suc k - 1 ≡ k = omega arith in
-        sym (deeper k (omega arith) ∙ ap (λ (b : Bool). b && dir) (eq-eqb k (length (spell bs (take d last))) (sym y ∙ n ∙ sym path-length)))
+  -- the spans stay within the bytes
+  spelt_next : (m k : ℕ) (v : Span) → k ≤ d → k < length last → Within m v → Spelt m (take d last) → Spelt m (take (suc k) (set last k v))
+  spelt_next m k v a h w s = All-same (Within m) _ _ (front_more k v a h) (All-push (Within m) (take k (take d last)) v (All-take (Within m) k (take d last) s) w)
 
 -- ---- one entry
 
@@ -162,7 +96,7 @@ module _ (kind : ℕ → ℕ) (n : ℕ) (p : Path) (d : Bool) (ws : List ℕ) (b
   walk_at : walk_fits kind n p d (rows (drop i ws) (drop off bs)) ≡ entry_fits n p d (row_at bs (get_or ws i 0) off)
       && walk_fits kind n (path_of p (row_at bs (get_or ws i 0) off)) (eqb (kind (slot_of (get_or ws i 0))) 1) (rows (drop (suc i) ws) (drop (off + nlen_of (get_or ws i 0)) bs))
   unfolding walk_fits
-  walk_at = ap (walk_fits kind n p d) (rows_at ws bs i off h)
+  walk_at = ap (walk_fits kind n p d) (rows_at ws i h bs off)
 
   pub walk-bad : entry_fits n p d (row_at bs (get_or ws i 0) off) ≡ false → walk_fits kind n p d (rows (drop i ws) (drop off bs)) ≡ false
   walk-bad e = walk_at ∙ ap (λ (t : Bool). t && walk_fits kind n (path_of p (row_at bs (get_or ws i 0) off)) (eqb (kind (slot_of (get_or ws i 0))) 1) (rows (drop (suc i) ws) (drop (off + nlen_of (get_or ws i 0)) bs))) e
@@ -177,20 +111,6 @@ pub walk_end : (kind : ℕ → ℕ) (n : ℕ) (p : Path) (d : Bool) (ws : List �
 unfolding walk_fits
 walk_end kind n p d ws bs i h = ap (walk_fits kind n p d) (rows_end ws bs i h)
 
--- the numbers stay within the bytes
-pub spelt_next : (m : ℕ) (last : List ℕ) (d dep off n : ℕ) → Spelt m last d → 1 ≤ dep → dep ≤ d + 1 → dep ≤ length last → n < 256 → off + n ≤ m
-    → Spelt m (set last (dep - 1) (off * 256 + n)) dep
-spelt_next m last d dep off n s a b l h f k t = go (eqb k (dep - 1)) refl
-  where
-    v : ℕ
-    v = off * 256 + n
-
-    go : (t : Bool) → eqb k (dep - 1) ≡ t → get_or (set last (dep - 1) v) k 0 / 256 + get_or (set last (dep - 1) v) k 0 % 256 ≤ m
-    go true e =
-        let o : get_or (set last (dep - 1) v) k 0 ≡ v = ap (λ (i : ℕ). get_or (set last (dep - 1) v) i 0) (eqb-true k (dep - 1) e) ∙ get_or-set_same last (dep - 1) v 0 (omega arith) in
-        rw o (omega arith)
-    go false e = rw (get_or-set_other last (dep - 1) k v 0 (eqb-false k (dep - 1) e)) (s k (omega (arith, eqb-false k (dep - 1) e)))
-
 -- ---- the root
 
 nil-name : (n : ℕ) (bs : Bytes) → n ≤ length bs → is_nil (take n bs) ≡ eqb n 0
@@ -202,24 +122,23 @@ nil-name (suc n) (b ∷ bs) h = sym (ne_eqb (suc n) 0 (λ e. omega arith))
 abbrev pub root_fits : (ℕ → ℕ) → ℕ → ℕ → Bool
 root_fits kind n w = eqb (depth_of w) 0 && (eqb (nlen_of w) 0 && (ltb (slot_of w) n && eqb (kind (slot_of w)) 1))
 
-module _ (kind : ℕ → ℕ) (n : ℕ) (ws : List ℕ) (bs : Bytes) (h : 0 < length ws) (l : name_total ws ≤ length bs) where
-  root_at : rows_fit kind n (rows ws bs) ≡ root_fits kind n (get_or ws 0 0) && walk_fits kind n [] true (rows (drop 1 ws) (drop (nlen_of (get_or ws 0 0)) bs))
+module _ (kind : ℕ → ℕ) (n w : ℕ) (ws : List ℕ) (bs : Bytes) (l : name_total (w ∷ ws) ≤ length bs) where
+  root_at : rows_fit kind n (rows (w ∷ ws) bs) ≡ root_fits kind n w && walk_fits kind n [] true (rows ws (drop (nlen_of w) bs))
   unfolding rows_fit rows name_total
-  root_at = go ws h l
-    where
-      go : (ws : List ℕ) → 0 < length ws → name_total ws ≤ length bs
-          → rows_fit kind n (rows ws bs) ≡ root_fits kind n (get_or ws 0 0) && walk_fits kind n [] true (rows (drop 1 ws) (drop (nlen_of (get_or ws 0 0)) bs))
-      go [] h l = absurd (omega arith)
-      go (w ∷ ws) h l = ap (λ (t : Bool). (eqb (depth_of w) 0 && (t && (ltb (slot_of w) n && eqb (kind (slot_of w)) 1))) && walk_fits kind n [] true (rows ws (drop (nlen_of w) bs))) (nil-name (nlen_of w) bs (omega arith))
+  root_at = ap (λ (t : Bool). (eqb (depth_of w) 0 && (t && (ltb (slot_of w) n && eqb (kind (slot_of w)) 1))) && walk_fits kind n [] true (rows ws (drop (nlen_of w) bs))) (nil-name (nlen_of w) bs (omega arith))
 
-  pub root-bad : root_fits kind n (get_or ws 0 0) ≡ false → false ≡ rows_fit kind n (rows ws bs)
-  root-bad e = sym (root_at ∙ ap (λ (t : Bool). t && walk_fits kind n [] true (rows (drop 1 ws) (drop (nlen_of (get_or ws 0 0)) bs))) e)
+  pub root-bad : root_fits kind n w ≡ false → false ≡ rows_fit kind n (rows (w ∷ ws) bs)
+  root-bad e = sym (root_at ∙ ap (λ (t : Bool). t && walk_fits kind n [] true (rows ws (drop (nlen_of w) bs))) e)
 
-  pub root_on : root_fits kind n (get_or ws 0 0) ≡ true → walk_fits kind n [] true (rows (drop 1 ws) bs) ≡ rows_fit kind n (rows ws bs)
+  pub root_on : root_fits kind n w ≡ true → walk_fits kind n [] true (rows ws bs) ≡ rows_fit kind n (rows (w ∷ ws) bs)
   root_on e =
-      let w = get_or ws 0 0 in
       let z : nlen_of w ≡ 0 = eqb-true (nlen_of w) 0 (and_true_left (eqb (nlen_of w) 0) (ltb (slot_of w) n && eqb (kind (slot_of w)) 1) (and_true_right (eqb (depth_of w) 0) (eqb (nlen_of w) 0 && (ltb (slot_of w) n && eqb (kind (slot_of w)) 1)) e)) in
-      sym (root_at ∙ ap (λ (t : Bool). t && walk_fits kind n [] true (rows (drop 1 ws) (drop (nlen_of w) bs))) e ∙ ap (λ (k : ℕ). walk_fits kind n [] true (rows (drop 1 ws) (drop k bs))) z)
+      sym (root_at ∙ ap (λ (t : Bool). t && walk_fits kind n [] true (rows ws (drop (nlen_of w) bs))) e ∙ ap (λ (k : ℕ). walk_fits kind n [] true (rows ws (drop k bs))) z)
+
+-- the names behind the first
+pub root-total : (w : ℕ) (ws : List ℕ) (bs : Bytes) → name_total (w ∷ ws) ≤ length bs → name_total ws ≤ length bs
+unfolding name_total
+root-total w ws bs h = omega arith
 
 pub root_none : (kind : ℕ → ℕ) (n : ℕ) (ws : List ℕ) (bs : Bytes) → length ws ≡ 0 → true ≡ rows_fit kind n (rows ws bs)
 unfolding rows_fit rows
@@ -228,62 +147,57 @@ root_none kind n (w ∷ ws) bs h = absurd (omega arith)
 
 -- ---- the walk
 
--- the entries from record i on decide, behind the entry whose path the first d numbers say
-pub record Walked (ws heads : List ℕ) (bs : Bytes) (last : List ℕ) (i off d : ℕ) (dir : Bool) : Type 0 where
-  pub up : 1 ≤ i
-  pub within : i ≤ length ws
+-- the entries from record i on decide, behind the entry whose path the first d spans say
+pub record Walked (ws heads : List ℕ) (bs : Bytes) (last : List Span) (i off d : ℕ) (dir : Bool) : Type 0 where
   pub room : off + name_total (drop i ws) ≤ length bs
-  pub few : d < i
-  pub marks : length last ≡ 4096
-  pub spelt : Spelt (length bs) last d
-  pub same : walk_fits (kind_in heads) (length heads) [] true (rows (drop 1 ws) bs) ≡ walk_fits (kind_in heads) (length heads) (spell bs (take d last)) dir (rows (drop i ws) (drop off bs))
+  pub few : d ≤ i
+  pub spelt : Spelt (length bs) (take d last)
+  pub same : walk_fits (kind_in heads) (length heads) [] true (rows ws bs) ≡ walk_fits (kind_in heads) (length heads) (spell bs (take d last)) dir (rows (drop i ws) (drop off bs))
 
 module _ (ws heads : List ℕ) (bs : Bytes) where
-  pub walked_start : (last : List ℕ) → 1 ≤ length ws → name_total (drop 1 ws) ≤ length bs → length last ≡ 4096 → Walked ws heads bs last 1 0 0 true
-  unfolding spell
-  walked_start last h l m = record { up = omega arith; within = h; room = omega arith; few = omega arith; marks = m; spelt = λ k t. absurd (omega arith); same = refl }
+  pub walked_start : (last : List Span) → name_total ws ≤ length bs → Walked ws heads bs last 0 0 0 true
+  walked_start last l = record { room = omega arith; few = omega arith; spelt = All-nil (Within (length bs)); same = refl }
 
-  module _ (last : List ℕ) (i off d : ℕ) (dir : Bool) (few : length ws ≤ 4096) (w : Walked ws heads bs last i off d dir) where
-    pub walked_end : length ws ≤ i → true ≡ walk_fits (kind_in heads) (length heads) [] true (rows (drop 1 ws) bs)
+  module _ (last : List Span) (i off d : ℕ) (dir : Bool) (w : Walked ws heads bs last i off d dir) where
+    pub walked_end : length ws ≤ i → true ≡ walk_fits (kind_in heads) (length heads) [] true (rows ws bs)
     walked_end h = sym (w.same ∙ walk_end (kind_in heads) (length heads) (spell bs (take d last)) dir ws (drop off bs) i h)
 
     module _ (h : i < length ws) where
       -- the next name is within the bytes
       pub walked-name : off + nlen_of (get_or ws i 0) ≤ length bs
-      walked-name = omega (arith, w.room, total_at ws bs i off h)
+      walked-name = omega (arith, w.room, total_at ws i h)
 
-      pub walked-bad : entry_fits (length heads) (spell bs (take d last)) dir (row_at bs (get_or ws i 0) off) ≡ false → false ≡ walk_fits (kind_in heads) (length heads) [] true (rows (drop 1 ws) bs)
+      pub walked-bad : entry_fits (length heads) (spell bs (take d last)) dir (row_at bs (get_or ws i 0) off) ≡ false → false ≡ walk_fits (kind_in heads) (length heads) [] true (rows ws bs)
       walked-bad e = sym (w.same ∙ walk-bad (kind_in heads) (length heads) (spell bs (take d last)) dir ws bs i off h e)
 
-      module _ (e : entry_fits (length heads) (spell bs (take d last)) dir (row_at bs (get_or ws i 0) off) ≡ true) where
+      module _ (few : length ws < length last) (e : entry_fits (length heads) (spell bs (take d last)) dir (row_at bs (get_or ws i 0) off) ≡ true) where
         pub walked-slot : slot_of (get_or ws i 0) < length heads
         walked-slot = fits-within (length heads) (spell bs (take d last)) dir (row_at bs (get_or ws i 0) off) e
 
         pub walked-depth : (1 ≤ depth_of (get_or ws i 0)) × (depth_of (get_or ws i 0) ≤ d + 1)
         walked-depth =
             let f = fits-depth (length heads) (spell bs (take d last)) dir (row_at bs (get_or ws i 0) off) e in
-            let l = path-length bs last d (omega (arith, w.few, w.within, w.marks)) in
+            let l = path-length bs last d (omega (arith, w.few)) in
             (f.0, omega (arith, f.1))
 
-        pub walked_on : Walked ws heads bs (set last (depth_of (get_or ws i 0) - 1) (off * 256 + nlen_of (get_or ws i 0))) (i + 1) (off + nlen_of (get_or ws i 0)) (depth_of (get_or ws i 0)) (eqb (kind_in heads (slot_of (get_or ws i 0))) 1)
-        walked_on =
-            let f = walked-depth in
-            let v = get_or ws i 0 in
-            let b : nlen_of v < 256 = omega arith in
-            let t : depth_of v ≤ length last = omega (arith, w.few, w.marks, f.1) in
-            let q = path_next bs last d (omega (arith, w.few, w.marks)) (depth_of v) off (nlen_of v) f.0 f.1 t b in
-            record {
-              up = omega arith;
-              within = omega arith;
-              room = rw add-one (omega (arith, w.room, total_at ws bs i off h));
-              few = omega (arith, w.few, f.1);
-              marks = simp length-set w.marks;
-              spelt = spelt_next (length bs) last d (depth_of v) off (nlen_of v) w.spelt f.0 f.1 t b walked-name;
-              same = w.same ∙ walk_on (kind_in heads) (length heads) (spell bs (take d last)) dir ws bs i off h (spell bs (take (depth_of v) (set last (depth_of v - 1) (off * 256 + nlen_of v)))) e q;
-            }
+        pub walked_on : (v : Span) → v.0 ≡ off * 256 + nlen_of (get_or ws i 0)
+            → Walked ws heads bs (set last (depth_of (get_or ws i 0) - 1) v) (i + 1) (off + nlen_of (get_or ws i 0)) (depth_of (get_or ws i 0)) (eqb (kind_in heads (slot_of (get_or ws i 0))) 1)
+        walked_on v q = subst (λ (x : ℕ). Walked ws heads bs (set last k v) (i + 1) (off + n) x (eqb (kind_in heads (slot_of (get_or ws i 0))) 1)) (sym z) (record {
+          room = rw add-one (omega (arith, w.room, total_at ws i h));
+          few = omega (arith, w.few, walked-depth.1);
+          spelt = spelt_next bs last d (length bs) k v (omega (arith, walked-depth.1)) (omega (arith, w.few, walked-depth.1)) (omega (arith, walked-name)) w.spelt;
+          same = w.same ∙ walk_on (kind_in heads) (length heads) (spell bs (take d last)) dir ws bs i off h (spell bs (take (suc k) (set last k v))) e
+              (ap (λ (x : ℕ). path_by x (spell bs (take d last)) (take n (drop off bs))) z ∙ path_next bs last d k off n v (omega (arith, walked-depth.1)) (omega (arith, w.few, walked-depth.1)) at);
+        })
+          where
+            n : ℕ
+            n = nlen_of (get_or ws i 0)
 
--- the names behind the first
-pub root-total : (ws : List ℕ) → name_total (drop 1 ws) ≤ name_total ws
-unfolding name_total
-root-total [] = omega arith
-root-total (w ∷ ws) = omega arith
+            k : ℕ
+            k = depth_of (get_or ws i 0) - 1
+
+            z : depth_of (get_or ws i 0) ≡ suc k
+            z = omega (arith, walked-depth.0)
+
+            at : name_at bs v ≡ take n (drop off bs)
+            at = let a : v.0 % 256 ≡ n = omega arith in let b : v.0 / 256 ≡ off = omega arith in rw (a, b)

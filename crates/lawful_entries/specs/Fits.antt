@@ -1,12 +1,15 @@
 -- What the entries are tested for, apart from the bytes of their names; the path of an entry as the walk keeps it.
 -- Assumes nothing.
-use Rattle.std.specs.Prelude.{Bool, true, ◌&&◌, not, List, [], ◌∷◌, ℕ, ◌+◌, ◌/◌, ◌%◌, ◌≤◌, ◌<◌, eqb, ltb, take, drop, get_or}
+use Rattle.std.specs.Prelude.{Bool, true, ◌&&◌, not, List, [], ◌∷◌, ℕ, ◌+◌, ◌/◌, ◌%◌, ◌≤◌, eqb, ltb, take, drop, get_or, map}
+use Rattle.std.specs.List.{All}
 use Rattle.text.specs.Utf8.{Bytes}
 use Rattle.path.specs.Path.{Name, vanishes, is_up}
 use Rattle.model.specs.Tree.{Path}
+use Rattle.layout.specs.Numbers.{name_lengths}
 use Rattle.layout.specs.Fields.{depth_of, nlen_of, slot_of, kind_of}
 use Rattle.layout.specs.Rows.{Row, path_of}
 use Rattle.layout.specs.Lawful.{follows, root_ok}
+use Rattle.lawful_entries.specs.declared.span.Span.{Span}
 
 -- the kind of a slot
 abbrev pub kind_in : List ℕ → ℕ → ℕ
@@ -34,15 +37,18 @@ rows_fit kind n (r ∷ rs) = root_ok kind n r && walk_fits kind n [] true rs
 abbrev pub row_at : Bytes → ℕ → ℕ → Row
 row_at bs w off = record { depth = depth_of w; name = take (nlen_of w) (drop off bs); slot = slot_of w }
 
--- the name that a number says, 256 times where it stands and its length
-abbrev pub name_at : Bytes → ℕ → Name
-name_at bs v = take (v % 256) (drop (v / 256) bs)
+-- the name that stands there
+abbrev pub name_at : Bytes → Span → Name
+name_at bs v = take (v.0 % name_lengths) (drop (v.0 / name_lengths) bs)
 
--- the path that the numbers say
-unfoldable pub spell : Bytes → List ℕ → Path
-spell bs [] = []
-spell bs (v ∷ vs) = name_at bs v ∷ spell bs vs
+-- it stands within n bytes
+abbrev pub Within : ℕ → Span → Type 0
+Within n v = v.0 / name_lengths + v.0 % name_lengths ≤ n
 
--- the first d numbers say names within the bytes
-abbrev pub Spelt : ℕ → List ℕ → ℕ → Type 0
-Spelt n last d = (k : ℕ) → k < d → get_or last k 0 / 256 + get_or last k 0 % 256 ≤ n
+-- the path whose names stand there
+abbrev pub spell : Bytes → List Span → Path
+spell bs vs = map (name_at bs) vs
+
+-- they stand within n bytes
+abbrev pub Spelt : ℕ → List Span → Type 0
+Spelt n vs = All (Within n) vs

@@ -1,14 +1,9 @@
 -- What the bytes of names are tested for, apart from the order and the depth of the entries.
 -- Assumes nothing.
-use Rattle.std.specs.Prelude.{Bool, true, false, ◌&&◌, ◌||◌, List, [], ◌∷◌, ℕ, eqb, leb, length}
-use Rattle.text.specs.Utf8.{Bytes, text}
+use Rattle.std.specs.Prelude.{Bool, true, ◌&&◌, List, [], ◌∷◌, ℕ, eqb, leb, length}
+use Rattle.text.specs.Utf8.{text}
 use Rattle.path.specs.Path.{Name, no_slash}
 use Rattle.layout.specs.Rows.{Row}
-
--- the test holds of some byte
-unfoldable pub any : (ℕ → Bool) → Bytes → Bool
-any f [] = false
-any f (b ∷ s) = f b || any f s
 
 -- a slash
 abbrev pub slash : ℕ → Bool

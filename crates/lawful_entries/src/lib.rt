@@ -8,6 +8,7 @@ ghost use Rattle.lawful_entries.specs.Fits.{kind_in};
 
 mod looks;
 mod rising;
+mod span;
 mod walk;
 
 // Whether the records are the entries of a tree, in the order of a walk. `total` is the length of all names.
@@ -16,8 +17,5 @@ pub fn entries_ok(recs: &[u64], heads: &[u64], bytes: &[u8], total: usize) -> bo
         × (length recs.now ≤ most_entries) × (length bytes.now ≤ most_bytes) }
     ensures { result ≡ rows_ok (kind_in heads.now) (length heads.now) (rows recs.now bytes.now) }
 {
-    if !looks::names_clean(recs, bytes, total) {
-        return false;
-    }
-    walk::walk_ok(recs, heads, bytes)
+    looks::names_clean(recs, bytes, total) && walk::walk_ok(recs, heads, bytes)
 }

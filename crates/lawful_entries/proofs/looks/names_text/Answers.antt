@@ -1,34 +1,27 @@
--- `names_text` meets its contract. The loop's invariant: the names from record i on, which stand from `off` on, decide.
+-- `names_text` meets its contract. The loop's invariant: the names of the records that are left, which stand in `rest`, decide.
 -- Assumes nothing.
-use mathlib.Core.Path.{refl, sym, ◌∙◌}
+use mathlib.Core.Bool.{true, false}
+use mathlib.Core.Path.{sym, ◌∙◌}
 use native.Mathlib.Numerals.{add-one}
 use native.Mathlib.Omega.{arith}
-use lib.ListN.{drop}
-use borrow.Author.Tests.{not-true, not-false}
-use Rattle.lawful_entries.proofs.Looking.{total_at, text-bad, text_on, text-end}
+use Rattle.std.proofs.Common.{rules}
+use Rattle.lawful_entries.proofs.Looking.{total_at, text_step, text-end}
 use Rattle.lawful_entries.proofs.looks.names_text.Goals as goal
 
-pub loop-i-init : goal.loop-i-init
-loop-i-init c = (omega arith, omega arith, refl)
-
-pub overflow_add-e : goal.overflow_add-e
-overflow_add-e c = let a = c.args in let l = c.loop-i in omega (arith, total_at a.recs.now a.bytes.now l.i l.off (omega arith))
-
-pub slice_bounds-text_ok-end : goal.slice_bounds-text_ok-end
-slice_bounds-text_ok-end c = let a = c.args in let l = c.loop-i in omega (arith, total_at a.recs.now a.bytes.now l.i l.off (omega arith))
+pub split_at-requires : goal.split_at-requires
+split_at-requires c = omega (arith, total_at c.args.recs.now c.loop-w.w-index (omega arith))
 
 pub returns-then-not-text_ok : goal.returns-then-not-text_ok
 returns-then-not-text_ok c =
-    let a = c.args in let l = c.loop-i in let t = c.text_ok in
-    sym (l.invariant.2 ∙ text-bad a.recs.now a.bytes.now l.i l.off (omega arith) t.result _ refl t.ensures (not-true t.result c.if-not-text_ok.true-raw))
+    let l = c.loop-w in let s = c.split_at.result in
+    sym (l.invariant.1 ∙ text_step c.args.recs.now l.w-index (omega arith) l.rest.now s.0.now s.1.now false (search rules) (search rules) c.if-not-text_ok.ensures)
 
-pub loop-i-preserved : goal.loop-i-preserved
-loop-i-preserved c =
-    let a = c.args in let l = c.loop-i in let t = c.text_ok in (
-      omega arith,
-      rw add-one (omega (arith, total_at a.recs.now a.bytes.now l.i l.off (omega arith))),
-      l.invariant.2 ∙ text_on a.recs.now a.bytes.now l.i l.off (omega arith) t.result _ refl t.ensures (not-false t.result c.if-not-text_ok.false-raw),
+pub loop-w-preserved : goal.loop-w-preserved
+loop-w-preserved c =
+    let l = c.loop-w in let s = c.split_at.result in (
+      rw add-one (omega (arith, total_at c.args.recs.now l.w-index (omega arith))),
+      l.invariant.1 ∙ text_step c.args.recs.now l.w-index (omega arith) l.rest.now s.0.now s.1.now true (search rules) (search rules) c.if-not-text_ok.ensures,
     )
 
 pub returns : goal.returns
-returns c = let a = c.args in let l = c.loop-i in sym (l.invariant.2 ∙ text-end a.recs.now (drop l.off a.bytes.now) l.i (omega arith))
+returns c = let l = c.loop-w in sym (l.invariant.1 ∙ text-end c.args.recs.now l.rest.now l.w-index (omega arith))

@@ -1,35 +1,38 @@
 -- `entry_ok` meets its contract, test by test.
 -- Assumes nothing.
-use mathlib.Core.Bool.{true}
-use mathlib.Core.Path.{◌≡◌, refl, sym, ap, ◌∙◌}
+use mathlib.Core.Path.{◌≡◌, sym, ◌∙◌}
 use Prim.Native.Nat.{◌+◌}
-use lib.ListN.{take}
-use Rattle.path.specs.Path.{Name}
-use Rattle.path.specs.Backward.{kind_of}
-use Rattle.path.specs.declared.pieces.Piece.TheVariants as kind
+use native.Mathlib.Omega.{arith}
+use borrow.Author.Tests.{ltb-true}
 use Rattle.std.proofs.Common.{rules}
+use Rattle.path.specs.declared.pieces.Piece.TheVariants as kind
 use Rattle.layout.specs.Fields.{nlen_of}
-use Rattle.layout.specs.Lawful.{follows}
 use Rattle.lawful_entries.specs.Fits.{row_at, spell}
 use Rattle.lawful_entries.proofs.Looking.{part-name}
 use Rattle.lawful_entries.proofs.Walking.{fits-slot, fits-form, fits-rest}
+use Rattle.lawful_entries.proofs.walk.entry_ok.Goals.{then-slot_of-n, else-slot_of-n}
 use Rattle.lawful_entries.proofs.walk.entry_ok.Goals as goal
 
-pub returns-then-n-w : goal.returns-then-n-w
-returns-then-n-w c = let a = c.args in fits-slot a.n (spell a.bytes.now (take a.d a.last.now)) a.dir (row_at a.bytes.now a.w a.off) c.if-n-w.true
-
-pub returns-then-ne : goal.returns-then-ne
-returns-then-ne c =
+pub returns-then-eq : goal.returns-then-eq
+returns-then-eq c =
     let a = c.args in
-    let q = part-name a.bytes.now a.off (a.off + nlen_of a.w) (nlen_of a.w) refl in
-    let other : c.kind_of.result ≡ kind.Name → ⊥ = search rules in
-    fits-form a.n (spell a.bytes.now (take a.d a.last.now)) a.dir (row_at a.bytes.now a.w a.off) c.if-n-w.false (λ e. other (c.kind_of.ensures ∙ ap (kind_of true) q ∙ e))
+    let name = part-name a.bytes.now a.off (a.off + c.nlen_of.result) (nlen_of a.w) (omega arith) in
+    elim c.if-slot_of-n.branch [
+      | then-slot_of-n w ↦
+          let t = sym w.value-is ∙ c.if-eq.true in
+          let k : w.kind_of.result ≡ kind.Name = search rules in
+          (rw (c.depth_of.ensures, name) at c.follows_ok.ensures) ∙ fits-rest a.n (spell a.bytes.now a.path.now) a.dir (row_at a.bytes.now a.w a.off) (omega arith) (sym (rw name at w.kind_of.ensures) ∙ k)
+      | else-slot_of-n w ↦ absurd (omega (arith, ltb-true c.slot_of.result a.n (sym w.value-is ∙ c.if-eq.true)))
+    ]
 
-pub returns : goal.returns
-returns c =
+pub returns-else-eq : goal.returns-else-eq
+returns-else-eq c =
     let a = c.args in
-    let q = part-name a.bytes.now a.off (a.off + nlen_of a.w) (nlen_of a.w) refl in
-    let p = spell a.bytes.now (take a.d a.last.now) in
-    let r = row_at a.bytes.now a.w a.off in
-    let name : c.kind_of.result ≡ kind.Name = search rules in
-    c.follows_ok.ensures ∙ ap (λ (x : Name). follows p a.dir r.depth x) q ∙ fits-rest a.n p a.dir r c.if-n-w.false (sym (ap (kind_of true) q) ∙ sym c.kind_of.ensures ∙ name)
+    let name = part-name a.bytes.now a.off (a.off + c.nlen_of.result) (nlen_of a.w) (omega arith) in
+    elim c.if-slot_of-n.branch [
+      | then-slot_of-n w ↦
+          let t = sym w.value-is ∙ c.if-eq.false in
+          let other : w.kind_of.result ≡ kind.Name → ⊥ = search rules in
+          c.if-eq.false ∙ fits-form a.n (spell a.bytes.now a.path.now) a.dir (row_at a.bytes.now a.w a.off) (omega arith) (λ e. other ((rw name at w.kind_of.ensures) ∙ e))
+      | else-slot_of-n w ↦ c.if-eq.false ∙ fits-slot a.n (spell a.bytes.now a.path.now) a.dir (row_at a.bytes.now a.w a.off) (omega arith)
+    ]

@@ -1,22 +1,26 @@
 -- `walk_ok` meets its contract: the root, and what is below it.
 -- Assumes nothing.
 use mathlib.Core.Path.{sym, ◌∙◌}
-use Prim.Native.Nat.{ℕ}
 use native.Mathlib.Omega.{arith}
-use lib.ListN.{length, length-replicate}
-use borrow.Author.Tests.{not-true, not-false}
+use lib.ListN.{length}
 use Rattle.lawful_entries.specs.Fits.{kind_in}
 use Rattle.lawful_entries.proofs.Walking.{root_none, root-bad, root_on, root-total}
 use Rattle.lawful_entries.proofs.walk.walk_ok.Goals as goal
 
-pub returns-then-recs-eq0 : goal.returns-then-recs-eq0
-returns-then-recs-eq0 c = let a = c.args in root_none (kind_in a.heads.now) (length a.heads.now) a.recs.now a.bytes.now c.if-recs-eq0.true
+pub walk_below-requires : goal.walk_below-requires
+walk_below-requires c =
+    let e = c.in-Some.ensures.cases in
+    (omega arith, root-total _ _ c.args.bytes.now (rw e.0 at c.requires.0), c.requires.2)
 
-pub returns-then-not-root_ok : goal.returns-then-not-root_ok
-returns-then-not-root_ok c = let s = c in let a = s.args in root-bad (kind_in a.heads.now) (length a.heads.now) a.recs.now a.bytes.now (omega arith) s.requires.0 (sym c.root_ok.ensures ∙ not-true c.root_ok.result c.if-not-root_ok.true-raw)
+pub returns-then-root_ok : goal.returns-then-root_ok
+returns-then-root_ok c =
+    let a = c.args in let e = c.in-Some.ensures.cases in
+    c.walk_below.ensures ∙ rw e.0 (root_on (kind_in a.heads.now) (length a.heads.now) _ _ a.bytes.now (rw e.0 at c.requires.0) (sym c.if-root_ok.ensures))
 
-pub walk_rest-requires : goal.walk_rest-requires
-walk_rest-requires c = let s = c in let a = s.args in (omega arith, s.requires.1, omega (arith, s.requires.0, root-total a.recs.now), s.requires.2, length-replicate {A = ℕ} 4096 0)
+pub returns-else-root_ok : goal.returns-else-root_ok
+returns-else-root_ok c =
+    let a = c.args in let e = c.in-Some.ensures.cases in
+    c.if-root_ok.false ∙ rw e.0 (root-bad (kind_in a.heads.now) (length a.heads.now) _ _ a.bytes.now (rw e.0 at c.requires.0) (sym c.if-root_ok.ensures))
 
-pub returns : goal.returns
-returns c = let s = c in let a = s.args in c.walk_rest.ensures ∙ root_on (kind_in a.heads.now) (length a.heads.now) a.recs.now a.bytes.now (omega arith) s.requires.0 (sym c.root_ok.ensures ∙ not-false c.root_ok.result c.if-not-root_ok.false-raw)
+pub returns-in-None : goal.returns-in-None
+returns-in-None c = root_none (kind_in c.args.heads.now) (length c.args.heads.now) c.args.recs.now c.args.bytes.now c.in-None.ensures.cases

@@ -1,0 +1,34 @@
+// Where a name stands.
+ghost use Rattle.std.specs.Prelude.{◌≡◌, ◌+◌, ◌*◌, ◌≤◌, ◌<◌, length};
+ghost use Rattle.layout.specs.Numbers.{most_bytes, name_lengths};
+ghost use Rattle.lawful_entries.specs.Fits.{name_at, Within};
+
+use layout::NAME_LENGTHS;
+
+const LENGTHS: usize = NAME_LENGTHS as usize;
+
+// 256 times where the name begins, and its length. (kept: two fields take eight bytes, and the test of 511 entries 1.4 us more, a
+// fifth, to clear an array of them.)
+#[derive(Clone, Copy)]
+pub struct Span(u32);
+
+impl Span {
+    pub const EMPTY: Self = Span(0);
+
+    pub fn new(at: usize, n: usize) -> Self
+        requires { (at ≤ most_bytes) × (n < name_lengths) }
+        ensures { result.0 ≡ at * name_lengths + n }
+    {
+        Span((at * LENGTHS + n) as u32)
+    }
+
+    // The name.
+    pub fn of(self, bytes: &[u8]) -> &[u8]
+        requires { Within (length bytes.now) self }
+        ensures { result.now ≡ name_at bytes.now self }
+    {
+        let v = self.0 as usize;
+        let at = v / LENGTHS;
+        &bytes[at..at + v % LENGTHS]
+    }
+}
