@@ -8,12 +8,12 @@ use native.Mathlib.Numerals.{add-one}
 use native.Mathlib.Omega.{arith}
 use lib.Dec.{eqb}
 use lib.ListN.{length, take, drop, get_or, length-take, length-drop, take-append-drop}
-use lib.Seq.{append_snoc, take_all, drop-cons, drop-drop, take-add, take-suc}
+use lib.Seq.{append_snoc, take_all, drop-cons, drop-drop, take-add, take-suc, get_or-take, get_or-drop, length-take-le}
 use borrow.Author.Tests.{ne_eqb, eqb-false}
 use Rattle.text.specs.Utf8.{Bytes}
 use Rattle.path.specs.Path.{Name, cut, pieces}
 use Rattle.path.specs.Backward.{front, part}
-use Rattle.path.specs.Answer.{PieceIs}
+use Rattle.path.specs.Answer.{PieceIs, WholeIs}
 use Rattle.path.proofs.Every.{Every}
 
 -- ---- cutting
@@ -47,6 +47,11 @@ pub whole : (n : Name) → NoSlash n → pieces n ≡ n ∷ []
 unfolding pieces
 whole [] h = refl
 whole (b ∷ n) h = rw (ne_eqb b 47 h.0, whole n h.1)
+
+-- a stretch that is read byte by byte
+pub no_slash-reads : (n : Name) → ((k : ℕ) → k < length n → get_or n k 0 ≡ 47 → ⊥) → NoSlash n
+no_slash-reads [] h = tt
+no_slash-reads (b ∷ n) h = (h 0 (omega arith), no_slash-reads n (λ k l. h (suc k) (omega arith)))
 
 -- it joins the first piece of what follows
 pub pieces-join : (n t : Bytes) (h : Name) (r : List Name) → NoSlash n → pieces t ≡ h ∷ r → pieces (n ++ t) ≡ (n ++ h) ∷ r
@@ -97,22 +102,6 @@ part-behind s a b h =
     let e : a + (b - a) ≡ b = omega arith in
     sym (take-append-drop (b - a) (drop a s)) ∙ ap (λ (t : Bytes). part a b s ++ t) (drop-drop (b - a) a s ∙ ap (λ (k : ℕ). drop k s) e)
 
--- a part cut in two
-pub part-append : (a b e : ℕ) (s : Bytes) → a ≤ b → b ≤ e → part a e s ≡ part a b s ++ part b e s
-part-append a b e s h k =
-    let n : e - a - (b - a) ≡ e - b = omega arith in
-    let m : a + (b - a) ≡ b = omega arith in
-    take_part (b - a) (e - a) (drop a s) (omega arith) ∙ rw (drop-drop, n, m)
-
--- a part cut in two at a slash
-pub part_cut : (a b e : ℕ) (s : Bytes) → a ≤ b → b < e → e ≤ length s → get_or s b 0 ≡ 47 → pieces (part a e s) ≡ pieces (part a b s) ++ pieces (part (suc b) e s)
-part_cut a b e s h k l q = rw (part-append a b e s h (omega arith), part-cons b e s k l, q) (pieces-append (part a b s) (part (suc b) e s))
-
-pub part_step : (a e : ℕ) (s : Bytes) → 0 < a → a ≤ e → e ≤ length s → part (a - 1) e s ≡ get_or s (a - 1) 0 ∷ part a e s
-part_step a e s z h k =
-    let q : suc (a - 1) ≡ a = omega arith in
-    rw q at (part-cons (a - 1) e s (omega arith) k)
-
 -- ---- the last pieces
 
 -- what stands in front of a slash, or of the whole text, and then the pieces from there on
@@ -126,8 +115,60 @@ front-part s (suc k) e h l f =
     let q : get_or s k 0 ≡ 47 = rw m at (f (omega arith)) in
     rw (take_part (suc k) e s h, take-suc s k 0 i, q, append_snoc) (pieces-append (take k s) (part (suc k) e s))
 
--- a stretch without a slash behind one
+-- a stretch without a slash, behind one or at the start
 pub piece_is : (s : Bytes) (a e : ℕ) → a ≤ e → e ≤ length s → NoSlash (part a e s) → (0 < a → get_or s (a - 1) 0 ≡ 47) → PieceIs s a e
 piece_is s a e h l w f =
     let o = whole (part a e s) w in
     record { fits = h; last = rw add-one (front-part s a e h l f ∙ ap (λ (r : List Name). front a s ++ r) o); one = o; slash = f }
+
+-- ---- found from its end, in the first e bytes
+
+module _ (s : Bytes) (e : ℕ) (l : e ≤ length s) where
+  -- behind their last slash
+  pub piece_behind : (i : ℕ) → i < length (take e s) → get_or (take e s) i 0 ≡ 47
+      → ((k : ℕ) → i + 1 ≤ k → k < length (take e s) → get_or (take e s) k 0 ≡ 47 → ⊥) → PieceIs s (i + 1) e
+  piece_behind i h q w =
+      let n : length (take e s) ≡ e = length-take-le e s l in
+      let m : i < e = omega arith in
+      let z : i + 1 - 1 ≡ i = omega arith in
+      piece_is s (i + 1) e (omega arith) l
+      (no_slash-reads (part (i + 1) e s) (λ k b p.
+      let o : k < e - (i + 1) = omega (arith, part_length (i + 1) e s l) in
+      let j : i + 1 + k < e = omega arith in
+      w (i + 1 + k) (omega arith) (omega arith)
+      (get_or-take e s (i + 1 + k) 0 j ∙ sym (get_or-drop (i + 1) s k 0) ∙ sym (get_or-take (e - (i + 1)) (drop (i + 1) s) k 0 o) ∙ p)))
+      (λ _. rw z (sym (get_or-take e s i 0 m) ∙ q))
+
+  -- there is none
+  pub piece_first : ((k : ℕ) → k < length (take e s) → get_or (take e s) k 0 ≡ 47 → ⊥) → PieceIs s 0 e
+  piece_first w =
+      let z : e - 0 ≡ e = omega arith in
+      piece_is s 0 e (omega arith) l (rw z (no_slash-reads (take e s) w)) (λ h. absurd (omega arith))
+
+-- ---- found from its front, in what stands from a on
+
+module _ (s : Bytes) (a : ℕ) (l : a ≤ length s) where
+  whole_is : (j : ℕ) → a + j ≤ length s → ((k : ℕ) → k < j → get_or (take (length s - a) (drop a s)) k 0 ≡ 47 → ⊥)
+      → (0 < a → get_or s (a - 1) 0 ≡ 47) → (a + j < length s → get_or s (a + j) 0 ≡ 47) → WholeIs s a (a + j)
+  whole_is j h w f g =
+      let n : a + j - a ≡ j = omega arith in
+      let none : NoSlash (take j (drop a s)) = no_slash-reads (take j (drop a s)) (λ k b p.
+      let o : k < j = omega (arith, length-take j (drop a s)) in
+      let i : k < length s - a = omega arith in
+      w k o (get_or-take (length s - a) (drop a s) k 0 i ∙ sym (get_or-take j (drop a s) k 0 o) ∙ p)) in
+      record { piece = piece_is s a (a + j) (omega arith) h (rw n none) f; fits = h; stop = g }
+
+  -- up to its first slash
+  pub whole_before : (i : ℕ) → i < length (take (length s - a) (drop a s)) → get_or (take (length s - a) (drop a s)) i 0 ≡ 47
+      → ((k : ℕ) → k < i → get_or (take (length s - a) (drop a s)) k 0 ≡ 47 → ⊥) → (0 < a → get_or s (a - 1) 0 ≡ 47) → WholeIs s a (a + i)
+  whole_before i h q w f =
+      let o : i < length s - a = omega (arith, length-take (length s - a) (drop a s)) in
+      whole_is i (omega arith) w f (λ _. sym (get_or-drop a s i 0) ∙ sym (get_or-take (length s - a) (drop a s) i 0 o) ∙ q)
+
+  -- there is none
+  pub whole_last : ((k : ℕ) → k < length (take (length s - a) (drop a s)) → get_or (take (length s - a) (drop a s)) k 0 ≡ 47 → ⊥)
+      → (0 < a → get_or s (a - 1) 0 ≡ 47) → WholeIs s a (length s)
+  whole_last w f =
+      let n : a + (length s - a) ≡ length s = omega arith in
+      let m : length (take (length s - a) (drop a s)) ≡ length s - a = length-take-le (length s - a) (drop a s) (omega (arith, length-drop a s)) in
+      rw n at (whole_is (length s - a) (omega arith) (λ k h. w k (omega arith)) f (λ h. absurd (omega arith)))

@@ -1,7 +1,7 @@
 -- A text in which no slash is followed by a slash, by a dot or by nothing, and which does not begin so, has only names for
 -- pieces.
 -- Assumes nothing.
-use mathlib.Core.Bool.{Bool, true, false, ◌&&◌, ◌||◌}
+use mathlib.Core.Bool.{Bool, true, false}
 use mathlib.Core.List.{List, [], ◌∷◌, ◌++◌}
 use mathlib.Core.Path.{◌≡◌, refl, sym, ap, ◌∙◌, subst}
 use Prim.Native.Nat.{ℕ, zero, suc, ◌+◌, ◌-◌, ◌≤◌, ◌<◌, zero-le}
@@ -9,9 +9,8 @@ use native.Mathlib.Nat.{le_refl}
 use native.Mathlib.Numerals.{add-one}
 use native.Mathlib.Omega.{arith}
 use lib.Dec.{eqb}
-use lib.ListN.{length, take, drop, get_or, take-append-drop}
-use borrow.Author.Count.{below_more}
-use borrow.Author.Tests.{eq-eqb, eqb-true, eqb-false}
+use lib.ListN.{length, take, drop, get_or, length-take, take-append-drop}
+use borrow.Author.Tests.{eqb-true}
 use Rattle.text.specs.Utf8.{Bytes}
 use Rattle.path.specs.Path.{Name, cut, pieces, body}
 use Rattle.path.specs.Backward.{Sifted, kind_of, mk, sift_one, sift, sifted, front, part}
@@ -19,11 +18,11 @@ use Rattle.path.specs.Answer.{AllNames, Clean, EndIs, PieceIs, PlainIs}
 use Rattle.path.specs.declared.pieces.Piece.{Piece}
 use Rattle.path.specs.declared.pieces.Piece.TheVariants as kind
 use Rattle.std.specs.Prelude.{Option, Some}
-use Rattle.path.proofs.Cutting.{first, front-part, part-empty, part-cons, part_length, piece_is}
+use Rattle.path.proofs.Cutting.{first, front-part, part-empty, part_length, piece_is}
 use Rattle.path.proofs.Dots.{kind_none, kind_other}
 use Rattle.path.proofs.Dropping.{body-pieces}
 use Rattle.path.proofs.Every.{Every}
-use Rattle.path.proofs.Reading.{sift-append, back-gone, read_none, read-gone}
+use Rattle.path.proofs.Reading.{sift-append, pass_none, pass-vanished, read_none}
 
 -- a piece that is a name for its first byte
 pub record Named (n : Name) : Type 0 where
@@ -66,44 +65,28 @@ all-names s h strike = named-kept strike (pieces s) (go (pieces s) (tail 47 s h)
     go [] w = tt
     go (n ∷ ns) w = (w.0 refl, w.1)
 
--- ---- the loop
+-- ---- a text that is read byte by byte
 
 pub never : {A : Type 0} → false ≡ true → A
 never e = let z : ◌≡◌ {A = ℕ} 0 1 = cc in absurd (omega arith)
 
-pub or-false : (a b : Bool) → a || b ≡ false → (a ≡ false) × (b ≡ false)
-or-false true b e = (e, let z : true ≡ false = e in cc)
-or-false false b e = (refl, e)
+clean-follows : (b : ℕ) (s : Bytes) → Clean (b ∷ s) → ((k : ℕ) → suc k ≡ length (b ∷ s) → get_or (b ∷ s) k 0 ≡ 47 → ⊥) → Follows b s
+unfolding Follows
+clean-follows b [] w e = e 0 refl
+clean-follows b (c ∷ s) w e = (
+  w 0 (omega arith),
+  clean-follows c s (λ k h. let n : suc k + 1 ≡ suc (suc k) = omega arith in rw (add-one k) (rw n at (w (suc k) (omega arith)))) (λ k h. e (suc k) (ap suc h)),
+)
 
--- a byte and the one behind it
-pair : (x y : ℕ) → eqb x 47 && (eqb y 47 || eqb y 46) ≡ false → x ≡ 47 → (y ≡ 47 → ⊥) × (y ≡ 46 → ⊥)
-pair x y e q =
-    let t : eqb x 47 ≡ true = eq-eqb x 47 q in
-    let f : eqb y 47 || eqb y 46 ≡ false = rw t at e in
-    let w = or-false (eqb y 47) (eqb y 46) f in
-    (eqb-false y 47 w.0, eqb-false y 46 w.1)
-
--- a byte more
-pub clean_more : (s : Bytes) (a i : ℕ) → Clean s a i → eqb (get_or s i 0) 47 && (eqb (get_or s (i + 1) 0) 47 || eqb (get_or s (i + 1) 0) 46) ≡ false → Clean s a (i + 1)
-clean_more s a i w e = below_more _ i w (λ _. pair (get_or s i 0) (get_or s (i + 1) 0) e)
-
-module _ (s : Bytes) (e : ℕ) (fits : e ≤ length s) (last : get_or s (e - 1) 0 ≡ 47 → ⊥) where
-  -- behind each byte of a clean part comes what may
-  clean-follows : (n a : ℕ) → a + suc n ≡ e → Clean s a (e - 1) → Follows (get_or s a 0) (part (suc a) e s)
-  unfolding Follows
-  clean-follows zero a q w =
-      let m : e ≡ suc a = omega arith in
-      let p : a ≡ e - 1 = omega arith in
-      let z : part (suc a) e s ≡ [] = rw m (part-empty (suc a) s) in
-      rw z (λ h. last (rw p at h))
-  clean-follows (suc n) a q w =
-      let h = w a (omega arith) (le_refl a) in
-      rw (part-cons (suc a) e s (omega arith) fits) (rw add-one at h, clean-follows n (suc a) (omega arith) (λ k l g. w k l (omega arith)))
-
-  -- a clean part that neither begins nor ends like a piece that is no name
-  pub clean-names : (a : ℕ) → a < e → (get_or s a 0 ≡ 47 → ⊥) → (get_or s a 0 ≡ 46 → ⊥) → Clean s a (e - 1) → AllNames (part a e s)
-  unfolding Follows
-  clean-names a l h d w = all-names (part a e s) (rw (part-cons a e s l fits) ((λ q. (h, d)), clean-follows (e - suc a) a (omega arith) w))
+-- a clean text of some bytes that neither begins nor ends like a piece that is no name
+pub clean-names : (s : Bytes) → 0 < length s → (get_or s 0 0 ≡ 47 → ⊥) → (get_or s 0 0 ≡ 46 → ⊥) → (get_or s (length s - 1) 0 ≡ 47 → ⊥)
+    → Clean s → AllNames s
+unfolding Follows
+clean-names [] l h d e w = absurd (omega arith)
+clean-names (b ∷ s) l h d e w = all-names (b ∷ s) ((λ q. (h, d)), clean-follows b s w last)
+  where
+    last : (k : ℕ) → suc k ≡ length (b ∷ s) → get_or (b ∷ s) k 0 ≡ 47 → ⊥
+    last k n = let m : length (b ∷ s) - 1 ≡ k = omega arith in rw m at e
 
 -- ---- what stands beside the names
 
@@ -129,7 +112,7 @@ end-slash s l q =
       λ strike.
           let piece : PieceIs s (length s) (length s + 1 - 1) = rw n (piece_is s (length s) (length s) (le_refl (length s)) (le_refl (length s)) (rw part-empty tt) (λ _. q)) in
           let k : kind_of strike (part (length s) (length s + 1 - 1) s) ≡ kind.Vanishes = rw (n, part-empty (length s) s) (kind_none strike [] refl) in
-          rw p (read-gone strike s 0 (length s + 1) 0 (length s) [] (read_none strike s 0) 0 (back-gone strike s (length s + 1) (length s) (omega arith) piece 0 k)).same,
+          rw p ((read_none strike s 0).same ∙ (pass-vanished strike s (length s + 1) (length s) (omega arith) piece (length s + 1) 0 0 (pass_none strike s (length s + 1) 0) k).same []),
     )
 
 -- a slash in front, or none
@@ -139,13 +122,16 @@ module _ (s : Bytes) (e : ℕ) (end : EndIs s e) (strike : Bool) where
       end.1 strike ∙ ap (λ (x : List Name). sift strike x (mk 0 [])) (rw add-one (front-part s a e (omega arith) end.0 f))
       ∙ sift-append strike (front a s) (pieces (part a e s)) (mk 0 []) ∙ ap (λ (z : Sifted). sift strike (front a s) z) (h strike)
 
-  pub plain-relative : 0 < e → AllNames (part 0 e s) → PlainIs (Some (0, e)) strike 0 s
-  unfolding front sift
-  plain-relative l h = (zero-le, end.0, between 0 l (λ q. absurd (omega arith)) h)
-
-  pub plain-absolute : 1 < e → get_or s 0 0 ≡ 47 → AllNames (part 1 e s) → PlainIs (Some (1, e)) strike 0 s
+  -- what stands between is all names
+  pub plain-between : (a : ℕ) (t : Bytes) → a ≤ 1 → (0 < a → get_or s 0 0 ≡ 47) → t ≡ part a e s → 0 < length t → AllNames t → PlainIs (Some (a, e)) strike 0 s
   unfolding front sift pieces
-  plain-absolute l q h = (omega arith, end.0, between 1 l (λ _. q) h ∙ one_gone strike (mk 0 (pieces (part 1 e s))))
+  plain-between zero t l q n w h =
+      let m : 0 < e = omega (arith, ap length n, length-take (e - 0) (drop 0 s)) in
+      (zero-le, end.0, between 0 m (λ z. absurd (omega arith)) (subst AllNames n h))
+  plain-between (suc zero) t l q n w h =
+      let m : 1 < e = omega (arith, ap length n, length-take (e - 1) (drop 1 s)) in
+      (omega arith, end.0, between 1 m (λ z. q (omega arith)) (subst AllNames n h) ∙ one_gone strike (mk 0 (pieces (part 1 e s))))
+  plain-between (suc (suc a)) t l q n w h = absurd (omega arith)
 
 -- ---- what is kept of a plain text
 

@@ -3,24 +3,25 @@
 -- Assumes nothing.
 use mathlib.Core.Bool.{Bool, true, false, cond}
 use mathlib.Core.List.{List, [], ◌∷◌, ◌++◌, append-nil, append_assoc}
-use mathlib.Core.Path.{◌≡◌, refl, sym, ap, ◌∙◌, subst}
-use Prim.Native.Nat.{ℕ}
+use mathlib.Core.Path.{◌≡◌, refl, sym, ap, ◌∙◌}
+use Prim.Native.Nat.{ℕ, ◌+◌}
+use native.Mathlib.Omega.{arith}
+use lib.ListN.{length}
 use Rattle.text.specs.Utf8.{Bytes}
 use Rattle.path.specs.Path.{Name, names, norm, normal, is_absolute, from, absolute, last_name}
 use Rattle.path.specs.Backward.{Sifted, sifted, mk, part, drop_n}
-use Rattle.path.specs.Answer.{LastIs, PlaceIs}
-use Rattle.path.specs.declared.answer.Place.{Place}
+use Rattle.path.specs.Answer.{LastIs, NextIs, PlaceIs}
 use Rattle.path.specs.declared.answer.Place.TheVariants.{InPath, InCwd}
-use Rattle.std.specs.Prelude.{Option, Some, None, Result, Ok, Err}
+use Rattle.std.specs.Prelude.{Option, Some, None, Ok, Err, ok_or}
 use Rattle.path.proofs.Dropping.{drop_n-nil}
-use Rattle.path.proofs.Reading.{norm-sifted}
+use Rattle.path.proofs.Reading.{norm-sifted, read_none, read-next, read_end, read_last}
 
--- what a known answer says
-pub told : {r x : Result (ℕ × ℕ) ℕ} (s : Bytes) (k : ℕ) → r ≡ x → LastIs r s k → LastIs x s k
-told s k e w = subst (λ (y : Result (ℕ × ℕ) ℕ). LastIs y s k) e w
-
-pub place-told : {r x : Option Place} (path cwd : Bytes) → r ≡ x → PlaceIs r path cwd → PlaceIs x path cwd
-place-told path cwd e w = subst (λ (y : Option Place). PlaceIs y path cwd) e w
+-- the first name that is read from the end, or else how many are still to drop
+pub last_found : (s : Bytes) (k : ℕ) (r : Option (ℕ × ℕ)) (rest skip : ℕ) → NextIs true s (length s + 1) k r rest skip → LastIs (ok_or r skip) s k
+last_found s k (Some p) rest skip n =
+    let z = read_last true s k rest skip (part p.0 p.1 s) (read-next true s k (length s + 1) k [] (read_none true s k) p.0 p.1 rest skip n) in
+    (n.1, omega (arith, n.2), z.0, z.1)
+last_found s k None rest skip n = read_end true s k (length s + 1) k [] (read_none true s k) rest skip n
 
 last_snoc : (l : List Name) (n : Name) → last_name (l ++ (n ∷ [])) ≡ n
 unfolding last_name

@@ -5,7 +5,6 @@ pub mod Dropping
 pub mod Every
 pub mod Following
 pub mod Forming
-pub mod Keeping
 pub mod Lasts
 pub mod Laws
 pub mod Reading

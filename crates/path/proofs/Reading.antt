@@ -10,12 +10,11 @@ use native.Mathlib.Numerals.{add-one}
 use native.Mathlib.Omega.{arith}
 use lib.ListN.{length, length-append}
 use lib.Seq.{append_snoc, take-length}
+use Rattle.std.specs.Prelude.{Option, Some, None}
 use Rattle.text.specs.Utf8.{Bytes}
 use Rattle.path.specs.Path.{Name, pieces, vanishes, is_up, keep, names, norm, body}
 use Rattle.path.specs.Backward.{kind_by, kind_of, Sifted, mk, keep_one, sift_one, sift, sifted, front, part, drop_n}
-use Rattle.path.specs.Answer.{PieceIs, BackIs}
-use Rattle.path.specs.declared.answer.Back.{Back}
-use Rattle.path.specs.declared.answer.Back.TheVariants.{Gone, Keeps}
+use Rattle.path.specs.Answer.{PieceIs, NextIs}
 use Rattle.path.specs.declared.pieces.Piece.{Piece}
 use Rattle.path.specs.declared.pieces.Piece.TheVariants as kind
 
@@ -25,6 +24,27 @@ pub sift-append : (strike : Bool) (x y : List Name) (z : Sifted) → sift strike
 unfolding sift
 sift-append strike [] y z = refl
 sift-append strike (n ∷ x) y z = ap (λ (r : Sifted). sift_one (kind_of strike n) n r) (sift-append strike x y z)
+
+-- pieces that keep no name were read
+pub record Passed (strike : Bool) (s : Bytes) (rest0 skip0 rest skip : ℕ) : Type 0 where
+  pub same : (ns : List Name) → sift strike (front rest0 s) (mk skip0 ns) ≡ sift strike (front rest s) (mk skip ns)
+  pub low : rest ≤ rest0
+  pub few : skip + rest ≤ skip0 + rest0
+
+pub pass_none : (strike : Bool) (s : Bytes) (rest skip : ℕ) → Passed strike s rest skip rest skip
+pass_none strike s rest skip = record { same = λ ns. refl; low = le_refl rest; few = le_refl (skip + rest) }
+
+pub pass_all : (strike : Bool) (s : Bytes) (rest0 skip0 skip : ℕ) → Passed strike s rest0 skip0 0 skip → NextIs strike s rest0 skip0 None 0 skip
+unfolding sift front
+pass_all strike s rest0 skip0 skip w = (refl, omega (arith, w.few), w.same)
+
+-- the same of what equals the text and what is left of it
+pub next_same : (strike t : Bool) (s u : Bytes) (rest0 rest skip0 skip : ℕ) (r : Option (ℕ × ℕ)) (rest' skip' : ℕ)
+    → s ≡ u → strike ≡ t → rest0 ≡ rest → skip0 ≡ skip → NextIs strike s rest0 skip0 r rest' skip' → NextIs t u rest skip r rest' skip'
+next_same strike t s u rest0 rest skip0 skip r rest' skip' a b c d n =
+    subst (λ (x : Bytes). NextIs t x rest skip r rest' skip') a
+    (subst (λ (x : Bool). NextIs x s rest skip r rest' skip') b
+    (subst (λ (x : ℕ). NextIs strike s x skip r rest' skip') c (subst (λ (x : ℕ). NextIs strike s rest0 x r rest' skip') d n)))
 
 -- the last piece is read first
 module _ (strike : Bool) (s : Bytes) (rest a : ℕ) (pos : 0 < rest) (piece : PieceIs s a (rest - 1)) where
@@ -37,32 +57,36 @@ module _ (strike : Bool) (s : Bytes) (rest a : ℕ) (pos : 0 < rest) (piece : Pi
       ∙ sift-append strike (front a s) (part a (rest - 1) s ∷ []) z
       ∙ ap (λ (x : Piece). sift strike (front a s) (sift_one x (part a (rest - 1) s) z)) q
 
-  pub back-gone : (skip : ℕ) → kind_of strike (part a (rest - 1) s) ≡ kind.Vanishes → BackIs strike s rest skip (Gone a skip)
-  back-gone skip q = (omega (arith, piece.fits), omega arith, λ ns. sift_last (mk skip ns) kind.Vanishes q)
+  -- what was passed with that piece
+  module _ (rest0 skip0 skip : ℕ) (w : Passed strike s rest0 skip0 rest skip) where
+    on : (k : Piece) → kind_of strike (part a (rest - 1) s) ≡ k → (ns : List Name)
+        → sift strike (front rest0 s) (mk skip0 ns) ≡ sift strike (front a s) (sift_one k (part a (rest - 1) s) (mk skip ns))
+    on k q ns = w.same ns ∙ sift_last (mk skip ns) k q
 
-  pub back_up : (skip : ℕ) → kind_of strike (part a (rest - 1) s) ≡ kind.Drops → BackIs strike s rest skip (Gone a (skip + 1))
-  back_up skip q = (omega (arith, piece.fits), omega arith, λ ns. rw add-one (sift_last (mk skip ns) kind.Drops q))
+    pub pass-vanished : kind_of strike (part a (rest - 1) s) ≡ kind.Vanishes → Passed strike s rest0 skip0 a skip
+    pass-vanished q = record { same = on kind.Vanishes q; low = omega (arith, piece.fits, w.low); few = omega (arith, piece.fits, w.few) }
 
-  pub back-dropped : (skip : ℕ) → kind_of strike (part a (rest - 1) s) ≡ kind.Name → 0 < skip → BackIs strike s rest skip (Gone a (skip - 1))
-  back-dropped skip q h =
-      let p : skip ≡ suc (skip - 1) = omega arith in (
-        omega (arith, piece.fits),
-        omega arith,
-        λ ns. sift_last (mk skip ns) kind.Name q ∙ ap (λ (x : ℕ). sift strike (front a s) (keep_one x (part a (rest - 1) s) ns)) p,
-      )
+    pub pass_up : kind_of strike (part a (rest - 1) s) ≡ kind.Drops → Passed strike s rest0 skip0 a (skip + 1)
+    pass_up q = record { same = λ ns. rw add-one (on kind.Drops q ns); low = omega (arith, piece.fits, w.low); few = omega (arith, piece.fits, w.few) }
 
-  pub back-kept : (skip : ℕ) → kind_of strike (part a (rest - 1) s) ≡ kind.Name → skip ≡ 0 → BackIs strike s rest skip (Keeps a)
-  back-kept skip q h = (
-    omega (arith, piece.fits),
-    λ ns. sift_last (mk skip ns) kind.Name q ∙ ap (λ (x : ℕ). sift strike (front a s) (keep_one x (part a (rest - 1) s) ns)) h
-        ∙ ap (λ (x : ℕ). sift strike (front a s) (mk x (part a (rest - 1) s ∷ ns))) (sym h),
-    h,
-    piece,
-  )
+    pub pass-dropped : kind_of strike (part a (rest - 1) s) ≡ kind.Name → 0 < skip → Passed strike s rest0 skip0 a (skip - 1)
+    pass-dropped q h =
+        let p : skip ≡ suc (skip - 1) = omega arith in
+        record {
+          same = λ ns. on kind.Name q ns ∙ ap (λ (x : ℕ). sift strike (front a s) (keep_one x (part a (rest - 1) s) ns)) p;
+          low = omega (arith, piece.fits, w.low);
+          few = omega (arith, piece.fits, w.few);
+        }
 
--- what a known answer says
-pub told : (strike : Bool) (s : Bytes) (rest skip : ℕ) {r x : Back} → r ≡ x → BackIs strike s rest skip r → BackIs strike s rest skip x
-told strike s rest skip e b = subst (λ (y : Back). BackIs strike s rest skip y) e b
+    pub pass_kept : kind_of strike (part a (rest - 1) s) ≡ kind.Name → skip ≡ 0 → NextIs strike s rest0 skip0 (Some (a, rest - 1)) a skip
+    pass_kept q h = (
+      refl,
+      piece.fits,
+      omega (arith, w.low),
+      omega (arith, piece.fits, w.few),
+      λ ns. on kind.Name q ns ∙ ap (λ (x : ℕ). sift strike (front a s) (keep_one x (part a (rest - 1) s) ns)) h
+          ∙ ap (λ (x : ℕ). sift strike (front a s) (mk x (part a (rest - 1) s ∷ ns))) (sym h),
+    )
 
 -- ---- what reading from the end has to do with `norm` and `names`
 
@@ -131,12 +155,12 @@ module _ (strike : Bool) (s : Bytes) (k : ℕ) where
   unfolding sift front
   read_all skip kept r = r.same
 
-  module _ (rest skip a : ℕ) (kept : List Name) (r : Read strike s k rest skip kept) where
-    pub read-gone : (j : ℕ) → BackIs strike s rest skip (Gone a j) → Read strike s k a j kept
-    read-gone j b = record { same = r.same ∙ b.2 kept; room = omega (arith, r.room, b.0); few = omega (arith, r.few, b.0, b.1) }
+  module _ (rest skip : ℕ) (kept : List Name) (r : Read strike s k rest skip kept) where
+    pub read-next : (a e rest' skip' : ℕ) → NextIs strike s rest skip (Some (a, e)) rest' skip' → Read strike s k rest' skip' (part a e s ∷ kept)
+    read-next a e rest' skip' n = record { same = r.same ∙ n.4 kept; room = omega (arith, r.room, n.0, n.1, n.2); few = omega (arith, r.few, n.3) }
 
-    pub read_kept : BackIs strike s rest skip (Keeps a) → Read strike s k a skip (part a (rest - 1) s ∷ kept)
-    read_kept b = record { same = r.same ∙ b.1 kept; room = omega (arith, r.room, b.0); few = omega (arith, r.few, b.0) }
+    pub read_end : (rest' skip' : ℕ) → NextIs strike s rest skip None rest' skip' → (sifted strike k s ≡ mk skip' kept) × (skip' ≤ k + length s + 1)
+    read_end rest' skip' n = (r.same ∙ n.2 kept, omega (arith, r.few, n.1))
 
 -- ---- lengths
 

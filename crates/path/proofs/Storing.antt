@@ -3,21 +3,14 @@
 use mathlib.Core.Bool.{Bool}
 use mathlib.Core.List.{List, [], ◌∷◌, ◌++◌, append_assoc}
 use mathlib.Core.Path.{◌≡◌, refl, sym, ap, ◌∙◌}
-use Prim.Native.Nat.{ℕ, ◌+◌, ◌-◌, ◌≤◌, ◌<◌}
-use native.Mathlib.Numerals.{add-one}
+use Prim.Native.Nat.{ℕ, ◌+◌, ◌-◌, ◌≤◌}
 use native.Mathlib.Omega.{arith}
-use lib.ListN.{length, take, drop, set, take-append-drop}
-use lib.Seq.{paste, take-length, take_at, take-take, drop_at, drop-set-lt, take-suc-set, length-take-le}
+use lib.ListN.{length, take, drop, take-append-drop}
+use lib.Seq.{take_at, take-take, drop_at, length-take-le}
 use Rattle.text.specs.Utf8.{Bytes}
 use Rattle.path.specs.Path.{Name, body}
 use Rattle.path.specs.Backward.{sifted}
 use Rattle.path.proofs.Reading.{Read, read_all, body-cons-length}
-
-pub put-done : (out : Bytes) (at : ℕ) (n : Name) (j : ℕ) → j ≡ length n → at < length out
-    → paste (set out at 47) (at + 1) n j ≡ take at out ++ ((47 ∷ n) ++ drop (at + 1 + length n) out)
-put-done out at n j e l =
-    rw (e, take-length, drop-set-lt (at + 1 + length n) out at 47 (omega arith), add-one, take-suc-set out at 47)
-    (simp append_assoc)
 
 -- what is stored so far: the names `kept` from `at` to `end`
 pub record Stored (before out : Bytes) (at end : ℕ) (kept : List Name) : Type 0 where

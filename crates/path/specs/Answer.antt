@@ -8,8 +8,6 @@ use Rattle.path.specs.declared.answer.TooLong.{TooLong}
 use Rattle.path.specs.declared.answer.Kept.{Kept}
 use Rattle.path.specs.declared.answer.Place.{Place}
 use Rattle.path.specs.declared.answer.Place.TheVariants.{InPath, InCwd}
-use Rattle.path.specs.declared.answer.Back.{Back}
-use Rattle.path.specs.declared.answer.Back.TheVariants.{Gone, Keeps}
 
 -- the length of a formed text, or refusal 6
 abbrev pub Formed : Type 0
@@ -90,15 +88,15 @@ pub record WholeIs (s : Bytes) (a e : ℕ) : Type 0 where
   pub fits : e ≤ length s
   pub stop : e < length s → get_or s e 0 ≡ 47
 
--- no slash from a up to, not including, e has a slash or a dot behind it
-abbrev pub Clean : Bytes → ℕ → ℕ → Type 0
-Clean s a e = (k : ℕ) → k < e → a ≤ k → get_or s k 0 ≡ 47 → (get_or s (k + 1) 0 ≡ 47 → ⊥) × (get_or s (k + 1) 0 ≡ 46 → ⊥)
+-- no slash has a slash or a dot behind it
+abbrev pub Clean : Bytes → Type 0
+Clean s = (k : ℕ) → k + 1 < length s → get_or s k 0 ≡ 47 → (get_or s (k + 1) 0 ≡ 47 → ⊥) × (get_or s (k + 1) 0 ≡ 46 → ⊥)
 
--- Gone: what is left of the pieces keeps the same names behind it, with k still to drop. Keeps: the name from a on is kept,
--- since none is still to drop
-abbrev pub BackIs : Bool → Bytes → ℕ → ℕ → Back → Type 0
-BackIs strike s rest skip (Gone a k) =
-    (a < rest) × (k ≤ skip + 1) × ((ns : List Name) → sift strike (front rest s) (mk skip ns) ≡ sift strike (front a s) (mk k ns))
-BackIs strike s rest skip (Keeps a) =
-    (a < rest) × ((ns : List Name) → sift strike (front rest s) (mk skip ns) ≡ sift strike (front a s) (mk skip (part a (rest - 1) s ∷ ns)))
-    × (skip ≡ 0) × PieceIs s a (rest - 1)
+-- a text that is read from its end: the pieces of its first rest - 1 bytes are left, and skip names are to drop. Some: the next name
+-- that is kept stands between these two places, and then so much is left. None: no name is kept
+abbrev pub NextIs : (strike : Bool) (s : Bytes) (rest skip : ℕ) → Option (ℕ × ℕ) → (rest' skip' : ℕ) → Type 0
+NextIs strike s rest skip (Some p) rest' skip' =
+    (p.0 ≡ rest') × (p.0 ≤ p.1) × (p.1 < rest) × (skip' + rest' ≤ skip + rest)
+    × ((ns : List Name) → sift strike (front rest s) (mk skip ns) ≡ sift strike (front rest' s) (mk skip' (part p.0 p.1 s ∷ ns)))
+NextIs strike s rest skip None rest' skip' =
+    (rest' ≡ 0) × (skip' ≤ skip + rest) × ((ns : List Name) → sift strike (front rest s) (mk skip ns) ≡ mk skip' ns)

@@ -21,12 +21,3 @@ pub enum Place {
     InPath(usize, usize),
     InCwd(usize, usize),
 }
-
-// One piece, read from the end of what is left.
-#[derive(Drop)]
-pub enum Back {
-    // No name is kept: what is left ends at the first number, and the second counts the names that are still dropped.
-    Gone(usize, usize),
-    // The name from this place to the end is kept.
-    Keeps(usize),
-}

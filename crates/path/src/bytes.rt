@@ -7,10 +7,6 @@ pub fn put_name(out: &mut [u8], at: usize, n: &[u8])
     ensures { out.new ≡ take at out.old
         ++ ((47 ∷ n.now) ++ drop (at + 1 + length n.now) out.old) }
 {
-    out[at] = 47;
-    let mut j = 0;
-    while j < n.len() {
-        out[at + 1 + j] = n[j];
-        j += 1;
-    }
+    out[at] = b'/';
+    out[at + 1..at + 1 + n.len()].copy_from_slice(n);
 }

@@ -27,14 +27,10 @@ pub fn piece_start(s: &[u8], e: usize) -> usize
     requires { e ≤ length s.now }
     ensures { PieceIs s.now result e }
 {
-    let mut a = e;
-    while a > 0 {
-        if s[a - 1] == 47 {
-            return a;
-        }
-        a -= 1;
+    match s[..e].iter().rposition(|b| *b == b'/') {
+        Some(slash) => slash + 1,
+        None => 0,
     }
-    0
 }
 
 // Where the piece that begins at a ends.
@@ -42,12 +38,8 @@ pub fn piece_end(s: &[u8], a: usize) -> usize
     requires { (a ≤ length s.now) × (0 < a → get_or s.now (a - 1) 0 ≡ 47) }
     ensures { WholeIs s.now a result }
 {
-    let mut j: usize = 0;
-    while j < s.len() - a {
-        if s[a + j] == 47 {
-            return a + j;
-        }
-        j += 1;
+    match s[a..].iter().position(|b| *b == b'/') {
+        Some(slash) => a + slash,
+        None => s.len(),
     }
-    a + j
 }

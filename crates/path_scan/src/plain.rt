@@ -1,56 +1,51 @@
 // A text whose pieces are all names, as most are: it needs no reading from the end.
-ghost use Rattle.std.specs.Prelude.{◌≡◌, Bool, true, ◌≤◌, ◌<◌, length};
+ghost use Rattle.std.specs.Prelude.{◌≡◌, Bool, true, ◌≤◌, ◌<◌, length, get_or};
 ghost use Rattle.path.specs.Answer.{AllNames, Clean, EndIs, PlainIs};
-ghost use Rattle.path.specs.Backward.{part};
 
-// Whether no slash of s[at..end] has a slash or a dot behind it.
-fn clean(s: &[u8], at: usize, end: usize) -> bool
-    requires { (at ≤ end) × (end < length s.now) }
-    ensures { result ≡ true → Clean s.now at end }
+// Where the text begins, but for one slash in front.
+fn text_start(s: &[u8]) -> usize
+    ensures { (result ≤ 1) × (0 < result → get_or s.now 0 0 ≡ 47) }
 {
-    let mut i = at;
-    while i < end {
-        let x = s[i];
-        let y = s[i + 1];
-        if (x == 47) & ((y == 47) | (y == 46)) {
-            return false;
-        }
-        i += 1;
+    match s {
+        [b'/', ..] => 1,
+        _ => 0,
     }
-    true
 }
 
 // Where the text ends, but for one slash at its end.
 fn text_end(s: &[u8]) -> usize
-    requires { 0 < length s.now }
     ensures { EndIs s.now result }
 {
-    let e = s.len() - 1;
-    if s[e] == 47 {
-        return e;
+    match s {
+        [.., b'/'] => s.len() - 1,
+        _ => s.len(),
     }
-    s.len()
 }
 
-// Whether every piece of s[from..end] is a name that does not begin with a dot.
-fn all_names(s: &[u8], from: usize, end: usize) -> bool
-    requires { end ≤ length s.now }
-    ensures { result ≡ true → (from < end) × AllNames (part from end s.now) }
+// Whether no slash has a slash or a dot behind it.
+fn clean(s: &[u8]) -> bool
+    requires { 0 < length s.now }
+    ensures { result ≡ true → Clean s.now }
 {
-    if end <= from {
+    let front = &s[..s.len() - 1];
+    let behind = &s[1..];
+    !front
+        .iter()
+        .zip(behind)
+        .any(|(x, y)| *x == b'/' && (*y == b'/' || *y == b'.'))
+}
+
+// Whether every piece of the text is a name that does not begin with a dot.
+fn all_names(s: &[u8]) -> bool
+    ensures { result ≡ true → (0 < length s.now) × AllNames s.now }
+{
+    if s.is_empty() {
         return false;
     }
-    if s[from] == 46 {
+    if s[0] == b'/' || s[0] == b'.' || s[s.len() - 1] == b'/' {
         return false;
     }
-    if s[from] == 47 {
-        return false;
-    }
-    let last = end - 1;
-    if s[last] == 47 {
-        return false;
-    }
-    clean(s, from, last)
+    clean(s)
 }
 
 // The places between which the pieces of the text are all names, where beside them stand at most a slash in front and one at
@@ -58,18 +53,10 @@ fn all_names(s: &[u8], from: usize, end: usize) -> bool
 pub fn find_plain(s: &[u8]) -> Option<(usize, usize)>
     ensures { (strike : Bool) → PlainIs result strike 0 s.now }
 {
-    if s.is_empty() {
-        return None;
-    }
+    let start = text_start(s);
     let end = text_end(s);
-    if s[0] == b'/' {
-        if all_names(s, 1, end) {
-            return Some((1, end));
-        }
-        return None;
+    match s.get(start..end) {
+        Some(names) if all_names(names) => Some((start, end)),
+        _ => None,
     }
-    if all_names(s, 0, end) {
-        return Some((0, end));
-    }
-    None
 }

@@ -1,26 +1,65 @@
 // What a text keeps once its `..` have dropped the names before them, read from the end.
 ghost use Rattle.std.specs.Prelude.{◌≡◌, ◌+◌, ◌≤◌, ◌<◌, length, take};
-ghost use Rattle.path.specs.Answer.{KeptIs, LastIs, BackIs, PlainIs, ends_at};
+ghost use Rattle.std.specs.Iterator.{at_most};
+ghost use Rattle.path.specs.Answer.{KeptIs, LastIs, NextIs, PlainIs, ends_at};
 ghost use Rattle.path.specs.Backward.{sifted, drop_n};
 ghost use Rattle.path.specs.Path.{body, names};
 
 use crate::plain::find_plain;
-use path::answer::{Back, Kept};
+use path::answer::Kept;
 use path::bytes::put_name;
 use path::pieces::{Piece, kind_of, piece_start};
 
-// The last of the pieces of s[..rest - 1], where `skip` names are still dropped. `strike`: whether `..` drops a name.
-fn read_back(s: &[u8], rest: usize, strike: bool, skip: usize) -> Back
-    requires { (0 < rest) × (rest ≤ length s.now + 1) × (skip + rest ≤ 18446744073709551616) }
-    ensures { BackIs strike s.now rest skip result }
-{
-    let e = rest - 1;
-    let a = piece_start(s, e);
-    match kind_of(&s[a..e], strike) {
-        Piece::Vanishes => Back::Gone(a, skip),
-        Piece::Drops => Back::Gone(a, skip + 1),
-        Piece::Name if skip > 0 => Back::Gone(a, skip - 1),
-        Piece::Name => Back::Keeps(a),
+// The names that a text keeps, the last first: where each begins and ends.
+#[derive(Drop)]
+pub struct KeptNames<'a> {
+    text: &'a [u8],
+    // Whether `..` drops a name.
+    strike: bool,
+    // The pieces of text[..rest - 1] are left to read; 0: none.
+    rest: usize,
+    // How many names are still to drop.
+    skip: usize,
+    ghost fits: { rest ≤ length text.now + 1 },
+    ghost few: { skip + rest ≤ 18446744073709551616 },
+}
+
+impl<'a> KeptNames<'a> {
+    // What stands behind the text drops `behind` names.
+    pub fn new(text: &'a [u8], strike: bool, behind: usize) -> Self
+        requires { behind ≤ 9223372036854775808 }
+        ensures { (result.text.now ≡ text.now) × (result.strike ≡ strike) × (result.rest ≡ length text.now + 1) × (result.skip ≡ behind) }
+    {
+        Self {
+            text,
+            strike,
+            rest: text.len() + 1,
+            skip: behind,
+        }
+    }
+}
+
+impl<'a> Iterator for KeptNames<'a> {
+    type Item = (usize, usize);
+
+    ghost next_gives = { λ s r t. (t.text.now ≡ s.text.now) × (t.strike ≡ s.strike) × NextIs s.strike s.text.now s.rest s.skip r t.rest t.skip };
+
+    ghost remaining = { λ s. at_most s.rest };
+
+    fn next(&mut self) -> Option<(usize, usize)> {
+        while self.rest > 0 {
+            let end = self.rest - 1;
+            let start = piece_start(self.text, end);
+            let kind = kind_of(&self.text[start..end], self.strike);
+            self.rest = start;
+            match kind {
+                Piece::Vanishes => {}
+                Piece::Drops => self.skip += 1,
+                Piece::Name if self.skip > 0 => self.skip -= 1,
+                Piece::Name => return Some((start, end)),
+            }
+        }
+        None
     }
 }
 
@@ -29,24 +68,14 @@ pub fn measure_back(s: &[u8], strike: bool, behind: usize) -> Kept
     requires { behind ≤ 9223372036854775808 }
     ensures { KeptIs strike s.now behind result }
 {
-    let mut rest = s.len() + 1;
-    let mut skip = behind;
-    let mut len: usize = 0;
-    while rest > 0 {
-        match read_back(s, rest, strike, skip) {
-            Back::Gone(a, k) => {
-                rest = a;
-                skip = k;
-            }
-            Back::Keeps(a) => {
-                len += rest - a;
-                rest = a;
-            }
-        }
+    let mut names = KeptNames::new(s, strike, behind);
+    let mut len = 0;
+    while let Some((start, end)) = names.next() {
+        len += end - start + 1;
     }
     Kept {
         len,
-        skip,
+        skip: names.skip,
         plain: None,
     }
 }
@@ -56,21 +85,10 @@ pub fn put_back(out: &mut [u8], end: usize, s: &[u8], strike: bool, behind: usiz
     requires { (behind ≤ 9223372036854775808) × (end ≤ length out.old) × (length (body (sifted strike behind s.now).kept) ≤ end) }
     ensures { out.new ≡ ends_at end (body (sifted strike behind s.now).kept) out.old }
 {
-    let mut rest = s.len() + 1;
-    let mut skip = behind;
     let mut at = end;
-    while rest > 0 {
-        match read_back(s, rest, strike, skip) {
-            Back::Gone(a, k) => {
-                rest = a;
-                skip = k;
-            }
-            Back::Keeps(a) => {
-                at -= rest - a;
-                put_name(out, at, &s[a..rest - 1]);
-                rest = a;
-            }
-        }
+    for (a, e) in KeptNames::new(s, strike, behind) {
+        at -= e - a + 1;
+        put_name(out, at, &s[a..e]);
     }
 }
 
@@ -127,20 +145,8 @@ pub fn last_kept(s: &[u8], behind: usize) -> Result<(usize, usize), usize>
     requires { behind ≤ 9223372036854775808 }
     ensures { LastIs result s.now behind }
 {
-    let mut rest = s.len() + 1;
-    let mut skip = behind;
-    while rest > 0 {
-        match read_back(s, rest, true, skip) {
-            Back::Gone(a, k) => {
-                rest = a;
-                skip = k;
-            }
-            Back::Keeps(a) => {
-                return Ok((a, rest - 1));
-            }
-        }
-    }
-    Err(skip)
+    let mut names = KeptNames::new(s, true, behind);
+    names.next().ok_or(names.skip)
 }
 
 // The length of s[..have], a path of the working buffers, without its last k names.
@@ -149,13 +155,11 @@ pub fn drop_names(s: &[u8], have: usize, k: usize) -> usize
     ensures { (result ≤ have) × (take result s.now ≡ body (drop_n k (names (take have s.now)))) }
 {
     let mut h = have;
-    let mut j = k;
-    while j > 0 {
+    for _ in 0..k {
         if h == 0 {
             return 0;
         }
         h = piece_start(s, h) - 1;
-        j -= 1;
     }
     h
 }

@@ -1,11 +1,11 @@
--- `lengths::lengths_ok` meets its contract. The loop's invariant: the pieces before i are short, so those from i on decide.
-use Prim.Native.Nat.{◌-◌, ◌≤◌}
+-- `lengths::lengths_ok` meets its contract. The loop's invariant: the pieces of the rest decide, since those before it are short.
+use mathlib.Core.Path.{◌≡◌}
 use lib.ListN.{length}
-use Rattle.path.proofs.Texts.{Rest}
+use Rattle.path.specs.Path.{pieces, all_short}
 use Rattle.path.proofs.lengths.lengths_ok.Given as goal
 
-abbrev pub invariant-loop-i : goal.invariant-loop-i
-invariant-loop-i l = (l.i ≤ length l.s) × Rest l.s l.i
+abbrev pub invariant-loop-head : goal.invariant-loop-head
+invariant-loop-head l = all_short (pieces l.s) ≡ all_short (pieces l.rest)
 
-abbrev pub decreases-loop-i : goal.decreases-loop-i
-decreases-loop-i l = length l.s - l.i
+abbrev pub decreases-loop-head : goal.decreases-loop-head
+decreases-loop-head l = length l.rest

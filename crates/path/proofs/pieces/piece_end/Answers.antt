@@ -1,17 +1,23 @@
--- `pieces::piece_end` meets its contract. The loop's invariant: no slash in what was passed.
--- Assumes nothing.
-use native.Mathlib.Omega.{arith}
-use Rattle.path.proofs.Keeping.{piece_more, piece_whole}
+-- `pieces::piece_end` meets its contract: up to what was found no slash stands.
+use Rattle.std.proofs.Common.{rules, ◌≢◌, ◌≡◌, ◌-◌, ◌<◌, ℕ, length, take, drop, get_or}
+use Rattle.std.specs.List.{All}
+use Rattle.path.proofs.Cutting.{whole_before, whole_last}
 use Rattle.path.proofs.pieces.piece_end.Goals as goal
 
-pub loop-j-init : goal.loop-j-init
-loop-j-init c = (omega arith, tt)
+pub returns-in-Some : goal.returns-in-Some
+returns-in-Some c =
+    let s = c.args.s.now in
+    let a = c.args.a in
+    let t = take (length s - a) (drop a s) in
+    let i = c.in-Some.slash in
+    let fits : i < length t = search rules in
+    let here : get_or t i 0 ≡ 47 = search rules in
+    let before : (k : ℕ) → k < i → get_or t k 0 ≢ 47 = search rules in
+    whole_before s a c.requires.0 i fits here before c.requires.1
 
-pub returns-then-s-a-eq47 : goal.returns-then-s-a-eq47
-returns-then-s-a-eq47 c = let l = c.loop-j in let b = c in piece_whole b.args.s.now b.args.a l.j l.invariant.0 l.invariant.1 b.requires.1 (λ _. c.if-s-a-eq47.true)
-
-pub loop-j-preserved : goal.loop-j-preserved
-loop-j-preserved c = let l = c.loop-j in let a = c.args in (omega arith, piece_more a.s.now a.a l.j (omega arith) l.invariant.1 c.if-s-a-eq47.false)
-
-pub returns : goal.returns
-returns c = let l = c.loop-j in let b = c in piece_whole b.args.s.now b.args.a l.j l.invariant.0 l.invariant.1 b.requires.1 (λ q. absurd (omega arith))
+pub returns-in-None : goal.returns-in-None
+returns-in-None c =
+    let s = c.args.s.now in
+    let a = c.args.a in
+    let none : All (λ b. b ≢ 47) (take (length s - a) (drop a s)) = search rules in
+    whole_last s a c.requires.0 (λ k h. none k 0 h) c.requires.1

@@ -1,33 +1,19 @@
--- `pieces::piece_start` meets its contract. The loop's invariant: no slash from a to e.
-use Prim.Native.Nat.{zero-le}
-use mathlib.Core.Path.{◌≡◌}
-use native.Mathlib.Omega.{arith}
-use Rattle.path.specs.Backward.{part}
-use Rattle.path.proofs.Cutting.{NoSlash, part-empty, part_step, piece_is}
+-- `pieces::piece_start` meets its contract: from what was found on no slash stands.
+use Rattle.std.proofs.Common.{rules, ◌≢◌, ◌≡◌, ◌+◌, ◌≤◌, ◌<◌, ℕ, length, take, get_or}
+use Rattle.std.specs.List.{All}
+use Rattle.path.proofs.Cutting.{piece_behind, piece_first}
 use Rattle.path.proofs.pieces.piece_start.Goals as goal
 
-pub loop-a-init : goal.loop-a-init
-loop-a-init c = (omega arith, rw part-empty tt)
+pub returns-in-Some : goal.returns-in-Some
+returns-in-Some c =
+    let t = take c.args.e c.args.s.now in
+    let i = c.in-Some.slash in
+    let fits : i < length t = search rules in
+    let here : get_or t i 0 ≡ 47 = search rules in
+    let behind : (k : ℕ) → i + 1 ≤ k → k < length t → get_or t k 0 ≢ 47 = search rules in
+    piece_behind c.args.s.now c.args.e c.requires i fits here behind
 
-pub returns-then-s-a-eq47 : goal.returns-then-s-a-eq47
-returns-then-s-a-eq47 c =
-    let f = c in
-    let s = f.args.s.now in
-    let e = f.args.e in
-    piece_is s f.loop-a.a e f.loop-a.invariant.0 f.requires f.loop-a.invariant.1 (λ _. c.if-s-a-eq47.true)
-
-pub loop-a-preserved : goal.loop-a-preserved
-loop-a-preserved c =
-    let f = c in
-    let s = f.args.s.now in
-    let a = f.loop-a.a in
-    (omega arith, rw (part_step a f.args.e s (omega arith) f.loop-a.invariant.0 f.requires) (c.if-s-a-eq47.false, f.loop-a.invariant.1))
-
-pub returns : goal.returns
-returns c =
-    let f = c in
-    let s = f.args.s.now in
-    let e = f.args.e in
-    let z : f.loop-a.a ≡ 0 = omega arith in
-    let w : NoSlash (part 0 e s) = rw z at f.loop-a.invariant.1 in
-    piece_is s 0 e zero-le f.requires w (λ q. absurd (omega arith))
+pub returns-in-None : goal.returns-in-None
+returns-in-None c =
+    let none : All (λ b. b ≢ 47) (take c.args.e c.args.s.now) = search rules in
+    piece_first c.args.s.now c.args.e c.requires (λ k h. none k 0 h)

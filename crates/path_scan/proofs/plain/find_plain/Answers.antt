@@ -1,28 +1,13 @@
 -- `plain::find_plain` meets its contract.
-use Rattle.path.proofs.Following.{plain-absolute, plain-relative}
+use Rattle.std.proofs.Common.{rules, ◌≡◌}
+use Rattle.path.specs.Backward.{part}
+use Rattle.path.proofs.Following.{plain-between}
 use Rattle.path_scan.proofs.plain.find_plain.Goals as goal
 
-pub returns-then-is_empty : goal.returns-then-is_empty
-returns-then-is_empty c = λ _. tt
-
-pub all_names-requires : goal.all_names-requires
-all_names-requires c = c.text_end-end.ensures.0
-
-pub returns-then-all_names : goal.returns-then-all_names
-returns-then-all_names c =
-    λ strike. let n = c.all_names.ensures c.if-all_names.true in
-    plain-absolute _ _ c.text_end-end.ensures strike n.0 c.if-s-eq47.true n.1
-
-pub returns-then-s-eq47 : goal.returns-then-s-eq47
-returns-then-s-eq47 c = λ _. tt
-
-pub all_names-requires-2 : goal.all_names-requires-2
-all_names-requires-2 c = c.text_end-end.ensures.0
-
-pub returns-then-all_names-2 : goal.returns-then-all_names-2
-returns-then-all_names-2 c =
-    λ strike. let n = c.all_names-2.ensures c.if-all_names-2.true in
-    plain-relative _ _ c.text_end-end.ensures strike n.0 n.1
-
-pub returns : goal.returns
-returns c = λ _. tt
+pub returns-in-Some : goal.returns-in-Some
+returns-in-Some c =
+    let start = c.text_start-start in
+    let end = c.text_end-end in
+    let names : c.in-Some.names.now ≡ part start.result end.result c.args.s.now = search rules in
+    let all = c.all_names.ensures c.if-all_names.true in
+    λ strike. plain-between c.args.s.now end.result end.ensures strike start.result c.in-Some.names.now start.ensures.0 start.ensures.1 names all.0 all.1

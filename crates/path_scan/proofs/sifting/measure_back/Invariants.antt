@@ -7,8 +7,7 @@ use Rattle.path.specs.Path.{Name, body}
 use Rattle.path.proofs.Reading.{Read}
 use Rattle.path_scan.proofs.sifting.measure_back.Given as goal
 
-abbrev pub invariant-loop-rest : goal.invariant-loop-rest
-invariant-loop-rest l = (kept : List Name) × Read l.strike l.s l.behind l.rest l.skip kept × (l.len ≡ length (body kept)) × (l.len + l.rest ≤ length l.s + 1)
-
-abbrev pub decreases-loop-rest : goal.decreases-loop-rest
-decreases-loop-rest l = l.rest
+abbrev pub invariant-loop-start : goal.invariant-loop-start
+invariant-loop-start l =
+    (kept : List Name) × (l.names.text.now ≡ l.s) × (l.names.strike ≡ l.strike) × Read l.strike l.s l.behind l.names.rest l.names.skip kept
+    × (l.len ≡ length (body kept)) × (l.len + l.names.rest ≤ length l.s + 1)

@@ -1,101 +1,73 @@
 -- `sifting::put_back` meets its contract. The loop's invariant: the names kept of what was read are stored from `at` to `end`.
+use Rattle.std.proofs.Common.{rules}
 use mathlib.Core.List.{[], ◌∷◌}
 use mathlib.Core.Path.{◌≡◌, refl, ◌∙◌}
 use Prim.Native.Nat.{◌+◌, ◌-◌, ◌≤◌}
 use native.Mathlib.Omega.{arith}
 use lib.ListN.{length}
+use Rattle.std.specs.Prelude.{Some}
 use Rattle.path.specs.Path.{Name}
 use Rattle.path.specs.Backward.{part}
-use Rattle.path.specs.Answer.{BackIs}
-use Rattle.path.specs.declared.answer.Back.TheVariants.{Gone, Keeps}
+use Rattle.path.specs.Answer.{NextIs}
 use Rattle.path.proofs.Cutting.{part_length}
-use Rattle.path.proofs.Reading.{Read, read_none, read-gone, read_kept, read_fits, told, body-cons-length}
-use Rattle.path.proofs.Storing.{stored_none, stored_more, stored_all}
-use Rattle.path_scan.proofs.sifting.put_back.Goals.{In-Gone, In-Keeps}
+use Rattle.path.proofs.Reading.{Read, read_none, read-next, read_fits, next_same, body-cons-length}
+use Rattle.path.proofs.Storing.{stored_none, stored_more}
+use Rattle.path_scan.proofs.sifting.put_back.Goals.{In-Some}
 use Rattle.path_scan.proofs.sifting.put_back.Goals as goal
 
-pub loop-rest-init : goal.loop-rest-init
-loop-rest-init c = ([], read_none _ _ _, stored_none _ _, refl)
-
-pub read_back-requires : goal.read_back-requires
-read_back-requires c = (omega arith, c.loop-rest.invariant.1.room, omega (arith, c.loop-rest.invariant.1.few))
-
-gone : (c : In-Gone) → let a = c.args in let l = c.loop-rest in
-    BackIs a.strike a.s.now l.rest l.skip (Gone c.in-Gone.a c.in-Gone.k)
-gone c = told _ _ _ _ c.in-Gone.is c.read_back.ensures
-
-pub loop-rest-smaller-in-Gone : goal.loop-rest-smaller-in-Gone
-loop-rest-smaller-in-Gone c = (gone c).0
-
-pub loop-rest-preserved-in-Gone : goal.loop-rest-preserved-in-Gone
-loop-rest-preserved-in-Gone c =
-    let l = c.loop-rest in
-    let w = l.invariant in
-    (w.0, read-gone _ _ _ l.rest l.skip _ w.0 w.1 _ (gone c), w.2, w.3)
+pub loop-a-init : goal.loop-a-init
+loop-a-init c =
+    let a = c.args in
+    let i = c.into_iter-a-iterator.result in
+    let rest : i.rest ≡ length a.s.now + 1 = search rules in
+    let skip : i.skip ≡ a.behind = search rules in
+    ([], search rules, search rules, rw (rest, skip) (read_none a.strike a.s.now a.behind), stored_none _ _, refl)
 
 -- the name that is stored, and what was read with it
-abbrev name : (c : In-Keeps) → Name
-name c = part c.in-Keeps.a (c.loop-rest.rest - 1) c.args.s.now
+abbrev name : (c : In-Some) → Name
+name c = part c.in-Some.a c.in-Some.e c.args.s.now
 
-kept : (c : In-Keeps) → let a = c.args in let l = c.loop-rest in
-    BackIs a.strike a.s.now l.rest l.skip (Keeps c.in-Keeps.a)
-kept c = told _ _ _ _ c.in-Keeps.is c.read_back.ensures
+found : (c : In-Some) → let a = c.args in let n = c.loop-a.a-iterator in let t = c.next.new.self in
+    NextIs a.strike a.s.now n.rest n.skip (Some (c.in-Some.a, c.in-Some.e)) t.rest t.skip
+found c =
+    let a = c.args in let l = c.loop-a in let n = l.a-iterator in let t = c.next.new.self in
+    next_same n.strike a.strike n.text.now a.s.now n.rest n.rest n.skip n.skip (Some (c.in-Some.a, c.in-Some.e)) t.rest t.skip
+    l.invariant.1 l.invariant.2 refl refl c.in-Some.ensures.steps.2
 
-ran : (c : In-Keeps) → let a = c.args in let l = c.loop-rest in
-    Read a.strike a.s.now a.behind c.in-Keeps.a l.skip (name c ∷ l.invariant.0)
-ran c = let l = c.loop-rest in read_kept _ _ _ l.rest l.skip _ l.invariant.0 l.invariant.1 (kept c)
+ran : (c : In-Some) → let a = c.args in let t = c.next.new.self in
+    Read a.strike a.s.now a.behind t.rest t.skip (name c ∷ c.loop-a.invariant.0)
+ran c =
+    let l = c.loop-a in
+    read-next _ _ _ l.a-iterator.rest l.a-iterator.skip l.invariant.0 l.invariant.3 _ _ _ _ (found c)
 
 -- the name and its slash are as long as what was read, and there is room for them
-size : (c : In-Keeps) → length (name c) + 1 ≡ c.loop-rest.rest - c.in-Keeps.a
+size : (c : In-Some) → length (name c) + 1 ≡ c.in-Some.e - c.in-Some.a + 1
 size c =
-    let l = c.loop-rest in
-    omega (arith, (kept c).0, part_length c.in-Keeps.a (l.rest - 1) c.args.s.now (omega (arith, l.invariant.1.room)))
+    let n = found c in
+    omega (arith, part_length c.in-Some.a c.in-Some.e c.args.s.now (omega (arith, n.2, c.loop-a.invariant.3.room)))
 
-room : (c : In-Keeps) → let l = c.loop-rest in l.rest - c.in-Keeps.a ≤ l.at
+room : (c : In-Some) → c.in-Some.e - c.in-Some.a + 1 ≤ c.loop-a.at
 room c =
-    let w = c.loop-rest.invariant in
-    omega (arith, size c, w.2.width, c.requires.2, body-cons-length (name c) w.0, read_fits _ _ _ _ _ _ (ran c))
+    let w = c.loop-a.invariant in
+    omega (arith, size c, w.4.width, c.requires.2, body-cons-length (name c) w.0, read_fits _ _ _ _ _ _ (ran c))
 
-pub overflow_sub-at : goal.overflow_sub-at
-overflow_sub-at c = omega (arith, (kept c).0)
-
-pub overflow_sub-at-in-Keeps : goal.overflow_sub-at-in-Keeps
-overflow_sub-at-in-Keeps c = room c
-
-pub overflow_sub-rest : goal.overflow_sub-rest
-overflow_sub-rest c = omega (arith, (kept (goal.at.overflow_sub-rest c).In-Keeps).0)
-
-pub slice_bounds-put_name-count : goal.slice_bounds-put_name-count
-slice_bounds-put_name-count c = omega (arith, (kept (goal.at.slice_bounds-put_name-count c).In-Keeps).0)
-
-pub slice_bounds-put_name-start : goal.slice_bounds-put_name-start
-slice_bounds-put_name-start c = omega (arith, (kept (goal.at.slice_bounds-put_name-start c).In-Keeps).0)
-
-pub slice_bounds-put_name-end : goal.slice_bounds-put_name-end
-slice_bounds-put_name-end c = omega (arith, c.loop-rest.invariant.1.room)
+pub overflow_sub-at-in-loop-a : goal.overflow_sub-at-in-loop-a
+overflow_sub-at-in-loop-a c = room c
 
 pub put_name-requires : goal.put_name-requires
 put_name-requires c =
-    let l = c.loop-rest in
-    omega (arith, size (goal.at.put_name-requires c).In-Keeps, room (goal.at.put_name-requires c).In-Keeps, c.requires.1, l.invariant.2.width, l.invariant.3)
+    let s = (goal.at.put_name-requires c).In-Some in
+    omega (arith, size s, room s, c.requires.1, c.loop-a.invariant.4.width, c.loop-a.invariant.5)
 
-pub loop-rest-smaller : goal.loop-rest-smaller
-loop-rest-smaller c = (kept (goal.at.loop-rest-smaller c).In-Keeps).0
-
-pub loop-rest-preserved : goal.loop-rest-preserved
-loop-rest-preserved c =
-    let w = c.loop-rest.invariant in
-    let r = c in
-    let put = c.put_name in
-    (name (goal.at.loop-rest-preserved c).In-Keeps ∷ w.0, ran (goal.at.loop-rest-preserved c).In-Keeps, stored_more _ _ _ _ w.0 w.2 _ _ (name (goal.at.loop-rest-preserved c).In-Keeps) (omega (arith, c.requires.1, w.2.width, w.3)) (omega (arith, size (goal.at.loop-rest-preserved c).In-Keeps, room (goal.at.loop-rest-preserved c).In-Keeps)) put.ensures, put.auto.out ∙ w.3)
-
-pub shape_of-out : goal.shape_of-out
-shape_of-out c = c.loop-rest.invariant.3
-
-pub returns : goal.returns
-returns c =
-    let l = c.loop-rest in
-    let a = c.args in
-    let z : l.rest ≡ 0 = omega arith in
-    let r : Read a.strike a.s.now a.behind 0 l.skip l.invariant.0 = rw z at l.invariant.1 in
-    stored_all _ _ _ _ l.invariant.0 l.invariant.2 _ _ _ _ r
+pub loop-a-preserved : goal.loop-a-preserved
+loop-a-preserved c =
+    let w = c.loop-a.invariant in
+    let s = (goal.at.loop-a-preserved c).In-Some in
+    let x = c.next.ensures.steps in (
+      name s ∷ w.0,
+      x.0 ∙ w.1,
+      x.1 ∙ w.2,
+      ran s,
+      stored_more _ _ _ _ w.0 w.4 _ _ (name s) (omega (arith, c.requires.1, w.4.width, w.5)) (omega (arith, size s, room s)) c.put_name.ensures,
+      c.put_name.auto.out ∙ w.5,
+    )

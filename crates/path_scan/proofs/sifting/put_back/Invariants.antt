@@ -7,8 +7,8 @@ use Rattle.path.proofs.Reading.{Read}
 use Rattle.path.proofs.Storing.{Stored}
 use Rattle.path_scan.proofs.sifting.put_back.Given as goal
 
-abbrev pub invariant-loop-rest : goal.invariant-loop-rest
-invariant-loop-rest l = (kept : List Name) × Read l.strike l.s l.behind l.rest l.skip kept × Stored l.initial.out l.out l.at l.end kept × (length l.out ≡ length l.initial.out)
-
-abbrev pub decreases-loop-rest : goal.decreases-loop-rest
-decreases-loop-rest l = l.rest
+abbrev pub invariant-loop-a : goal.invariant-loop-a
+invariant-loop-a l =
+    (kept : List Name) × (l.a-iterator.text.now ≡ l.s) × (l.a-iterator.strike ≡ l.strike)
+    × Read l.strike l.s l.behind l.a-iterator.rest l.a-iterator.skip kept
+    × Stored l.initial.out l.out l.at l.end kept × (length l.out ≡ length l.initial.out)
