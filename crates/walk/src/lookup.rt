@@ -1,5 +1,5 @@
 // lookup_entry_detail_no_follow and lookup_entry_detail.
-ghost use Rattle.std.specs.Prelude.{◌≤◌, ◌<◌, take};
+ghost use Rattle.std.specs.Prelude.{◌≡◌, ◌+◌, ◌≤◌, ◌<◌, take};
 ghost use Rattle.layout.specs.Numbers.{most_entries};
 ghost use Rattle.layout.specs.Lent.{with_tree, still};
 ghost use Rattle.store.specs.Shows.{Some};
@@ -39,8 +39,31 @@ pub enum Looked {
     Missing(Absent),
 }
 
-// "the 41st link met before the last name is refused"
-pub const MOST: usize = 40;
+// The links that a walk has met before the last name.
+#[derive(Clone, Copy)]
+pub struct Walk {
+    pub count: usize,
+}
+
+impl Walk {
+    // "the 41st link met before the last name is refused"
+    pub const MOST: usize = 40;
+
+    pub fn new() -> Self
+        ensures { result.count ≡ 0 }
+    {
+        Self { count: 0 }
+    }
+
+    pub fn next(self) -> Self
+        requires { self.count < 40 }
+        ensures { result.count ≡ self.count + 1 }
+    {
+        Self {
+            count: self.count + 1,
+        }
+    }
+}
 
 // The path in out[..len], with the links before its last name followed. The root, record 0, is never hidden.
 // kept: the buffer is lent by the caller, so the length of the path in front of it goes beside it.
@@ -54,17 +77,18 @@ pub fn lookup_entry_detail_no_follow(
     ensures { WalksIn (still (with_tree tree.entry)) (take len out.old) hidden out.new result }
 {
     let mut n = len;
-    let mut links = 0;
+    let mut walk = Walk::new();
     // kept: the 41st link is refused before its path is formed, so the count is tested within a turn, and a `for` would have to fail twice.
     loop {
+        let links = walk.count;
         match lookup_entry_detail_until_symlink(tree, &out[..n], hidden)? {
             Met::Ends(end) => return Ok(Walked { end, len: n, links }),
             Met::MidLink(spot, dir, rest) => {
-                if links == MOST {
+                if links == Walk::MOST {
                     return Err(Refusal::LinkLoop);
                 }
                 n = behind_link(tree, out, n, spot, dir, rest)?;
-                links += 1;
+                walk = walk.next();
             }
         }
     }

@@ -17,7 +17,7 @@ use Rattle.model.proofs.Ordering.{named, named_here, named_past, Names, one_orde
 use Rattle.model.proofs.Demand.Over.{at_place, Over, pair-number, lone-number}
 use Rattle.model.proofs.Demand.OverEdits.{Likes, dirs, files, both_links, likes, not_missed}
 use Rattle.model.proofs.Demand.Places.{in_tree}
-use Rattle.path.proofs.Following.{or-false}
+use Rattle.std.proofs.lemmas.Bool.{or_parts}
 
 -- ---- what a directory shows
 
@@ -115,7 +115,7 @@ not_lacking : (w : World) (p : Path) (l : List (Name × Stat)) → lacks_one w p
     → look w.at (p ++ (x ∷ [])) ≡ none → ⊥
 unfolding lacks_one named
 not_lacking w p [] e x s k n = clash none s refl k
-not_lacking w p (f ∷ l) e x s k n = go (or-false (not (is_some (look w.at (p ++ (f.0 ∷ []))))) (lacks_one w p l) e) (name-dec f.0 x) (not_lacking w p l)
+not_lacking w p (f ∷ l) e x s k n = go (or_parts (not (is_some (look w.at (p ++ (f.0 ∷ []))))) (lacks_one w p l) e) (name-dec f.0 x) (not_lacking w p l)
   where
     go : (not (is_some (look w.at (p ++ (f.0 ∷ [])))) ≡ false) × (lacks_one w p l ≡ false) → Dec (f.0 ≡ x) → (lacks_one w p l ≡ false → (x : Name) (s : Stat) → named l x ≡ some s → look w.at (p ++ (x ∷ [])) ≡ none → ⊥) → ⊥
     go o (yes d) ih = false≢true (sym o.0 ∙ ap (λ (z : Option Node). not (is_some z)) (ap (λ (z : Name). look w.at (p ++ (z ∷ []))) d ∙ n))

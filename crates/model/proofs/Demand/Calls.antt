@@ -34,7 +34,7 @@ use Rattle.model.proofs.Demand.Places.{in_tree, in_hand}
 use Rattle.model.proofs.Demand.Spacing.{Top, weight, weight-edit, top-edit, hand_has, total-length, total-names, last_name_lem, root-name, like-target}
 use Rattle.model.proofs.Demand.Tidy.{Tidy, tidy-edit}
 use Rattle.model.proofs.Demand.Totals.{total, total_has}
-use Rattle.path.proofs.Following.{or-false}
+use Rattle.std.proofs.lemmas.Bool.{or_parts}
 use Rattle.model.proofs.Demand.TwoRuns.{Alike, two_runs}
 
 -- ---- two states between calls
@@ -350,7 +350,7 @@ call-alike c s u j e = at (screen c.work (given_to c.op) s.opens) refl (screen-a
     at (suc n) k l z = rw (← l, k) (refl, j)
     at zero k l z =
         let x : excepts (program (links_in s.tree) c.op) (world_of s) (world_of u) || for_space first.result ≡ false = rw k at z in
-        let o = or-false (excepts (program (links_in s.tree) c.op) (world_of s) (world_of u)) (for_space first.result) x in
+        let o = or_parts (excepts (program (links_in s.tree) c.op) (world_of s) (world_of u)) (for_space first.result) x in
         let b = first_run c.op s u j in
         rw (← l, k, b) (settle-alike s u j (run (program (links_in u.tree) c.op) (world_of s)) (run (program (links_in u.tree) c.op) (world_of u)) (both_run c.op s u j o.0) (rw b at o.1))
 

@@ -4,7 +4,7 @@
 -- Assumes nothing.
 use mathlib.Core.Bool.{Bool, false, ◌||◌}
 use mathlib.Core.Path.{◌≡◌, refl}
-use Rattle.path.proofs.Following.{or-false}
+use Rattle.std.proofs.lemmas.Bool.{or_parts}
 use Rattle.model.specs.Prog.{World, Ask, answer, Edit, apply, Prog, ret, stop, ask, edit, Out, done, refused, run}
 
 -- a program's questions and edits, as the first run goes, on both worlds as they then are: whether one of them is left out
@@ -29,8 +29,8 @@ module _ (R : World → World → Type 0) (asks : Ask → World → World → Bo
   two_runs (ret a) w v r e = (refl, r)
   two_runs (stop n) w v r e = refl
   two_runs (ask q k) w v r e =
-      let o = or-false (asks q w v) (excepts_by asks edits (k (answer q w)) w v) e in
+      let o = or_parts (asks q w v) (excepts_by asks edits (k (answer q w)) w v) e in
       rw (← (asked q w v r o.0)) (two_runs (k (answer q w)) w v r o.1)
   two_runs (edit d p) w v r e =
-      let o = or-false (edits d w v) (excepts_by asks edits p (apply d w) (apply d v)) e in
+      let o = or_parts (edits d w v) (excepts_by asks edits p (apply d w) (apply d v)) e in
       two_runs p (apply d w) (apply d v) (edited d w v r o.0) o.1

@@ -9,7 +9,7 @@ use Rattle.walk.proofs.lookup.lookup_entry_detail_no_follow.Goals.{Else-links-eq
 use Rattle.walk.proofs.lookup.lookup_entry_detail_no_follow.Goals as goal
 
 -- one more link may be followed
-below : (c : Else-links-eq-MOST) → c.loop-end.links < 40
+below : (c : Else-links-eq-MOST) → c.loop-end.walk.count < 40
 below c = omega (arith, c.if-links-eq-MOST.false, c.loop-end.invariant.few)
 
 pub returns-in_err-end : goal.returns-in_err-end
@@ -42,5 +42,6 @@ returns-in_err-n-in-MidLink c =
 
 pub loop-end-preserved : goal.loop-end-preserved
 loop-end-preserved c =
-    go_on c.loop-end.invariant _ c.in_ok-end.ensures _ _ _ c.in-MidLink.is (below (goal.at.loop-end-preserved c).Else-links-eq-MOST) _ c.requires.0 _ c.in_ok-n-in-MidLink.ensures
-    (omega (arith, c.loop-end.invariant.long))
+    rw c.next-walk.ensures
+    (go_on c.loop-end.invariant _ c.in_ok-end.ensures _ _ _ c.in-MidLink.is (below (goal.at.loop-end-preserved c).Else-links-eq-MOST) _ c.requires.0 _ c.in_ok-n-in-MidLink.ensures
+    (omega (arith, c.loop-end.invariant.long)))

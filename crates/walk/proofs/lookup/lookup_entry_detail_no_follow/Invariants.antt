@@ -8,7 +8,7 @@ use Rattle.walk.proofs.Passing.{Going}
 use Rattle.walk.proofs.lookup.lookup_entry_detail_no_follow.Given as goal
 
 abbrev pub invariant-loop-end : goal.invariant-loop-end
-invariant-loop-end l = Going (with_tree l.tree) l.hidden (take l.len l.initial.out) l.initial.out l.out l.n l.links
+invariant-loop-end l = Going (with_tree l.tree) l.hidden (take l.len l.initial.out) l.initial.out l.out l.n l.walk.count
 
 abbrev pub decreases-loop-end : goal.decreases-loop-end
-decreases-loop-end l = 40 - l.links
+decreases-loop-end l = 40 - l.walk.count
