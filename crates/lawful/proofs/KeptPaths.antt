@@ -1,23 +1,21 @@
--- A kept path read from its end: its pieces are the empty one in front of the first slash, and then its names.
+-- A kept path: nothing, or a slash and pieces behind it that are names.
 -- Assumes nothing.
-use mathlib.Core.Bool.{Bool, true, false, ◌&&◌, not}
-use mathlib.Core.List.{List, [], ◌∷◌, ◌++◌, append-nil, append_assoc}
+use mathlib.Core.Bool.{Bool, true, false, ◌&&◌, not, cond}
+use mathlib.Core.List.{List, [], ◌∷◌}
 use mathlib.Core.Path.{◌≡◌, refl, sym, ap, ◌∙◌, subst}
-use Prim.Native.Nat.{ℕ, suc, ◌-◌, ◌≤◌, ◌<◌}
-use native.Mathlib.Numerals.{add-one}
+use Prim.Native.Nat.{ℕ, ◌≤◌}
 use native.Mathlib.Omega.{arith}
-use lib.Dec.{T, leb, le→leb}
-use lib.ListN.{length, take}
-use lib.Seq.{take-length}
+use lib.Dec.{T, eqb, leb, le→leb}
+use lib.ListN.{length}
+use borrow.Author.Tests.{ne_eqb}
+use Rattle.std.specs.List.{list_all, slice_split, onto_first}
 use Rattle.text.specs.Utf8.{Bytes, text}
-use Rattle.path.specs.Path.{Name, pieces, vanishes, is_up, no_slash, proper, names, body, same, path_fits}
-use Rattle.path.specs.Backward.{front, part}
-use Rattle.path.specs.Answer.{PieceIs}
-use Rattle.path.proofs.Cutting.{NoSlash, first, pieces_no_slash, part_length}
+use Rattle.path.specs.Path.{Name, cut, pieces, keep, vanishes, is_up, no_slash, proper, names, body, same, path_fits}
+use Rattle.path.proofs.Cutting.{NoSlash, pieces_no_slash}
 use Rattle.path.proofs.Dropping.{body-pieces, names_no_slash, pieces-body}
 use Rattle.path.proofs.Every.{Every}
 use Rattle.path.proofs.Laws.{and_left, and_right, and_both, same_equal, same_refl, no_slash_lem, Shown, proper-shown, names-body}
-use Rattle.model.proofs.Entries.{is_true}
+use Rattle.model.proofs.Entries.{is_true, of_true}
 use Rattle.model.specs.Rules.{name_ok, names_ok, path_ok}
 use Rattle.layout.specs.Lawful.{cell_ok}
 use Rattle.lawful_entries.specs.Fits.{form_ok}
@@ -50,34 +48,34 @@ shown_all [] h = tt
 shown_all (n ∷ ns) h =
     (proper-shown n (and_left (proper n) (leb (length n) 255 && text n) (and_left (name_ok n) (names_ok ns) h)), shown_all ns (and_right (name_ok n) (names_ok ns) h))
 
--- a name among others
-among : (r : List Name) (x : Name) (ns : List Name) → T (names_ok (r ++ (x ∷ ns))) → T (name_ok x)
+-- pieces without a slash are names, where the test of each holds
+names-tested : (ns : List Name) → Every NoSlash ns → list_all piece_ok ns ≡ true → T (names_ok ns)
 unfolding names_ok
-among [] x ns h = and_left (name_ok x) (names_ok ns) h
-among (n ∷ r) x ns h = among r x ns (and_right (name_ok n) (names_ok (r ++ (x ∷ ns))) h)
+names-tested [] w e = tt
+names-tested (n ∷ ns) w e =
+    let t = of_true e in
+    and_both (name_ok n) (names_ok ns) (piece-name n w.0 (and_left (piece_ok n) (list_all piece_ok ns) t)) (names-tested ns w.1 (is_true (list_all piece_ok ns) (and_right (piece_ok n) (list_all piece_ok ns) t)))
+
+tested-names : (ns : List Name) → T (names_ok ns) → list_all piece_ok ns ≡ true
+unfolding names_ok
+tested-names [] h = refl
+tested-names (n ∷ ns) h = rw (is_true (piece_ok n) (name-piece n (and_left (name_ok n) (names_ok ns) h)), tested-names ns (and_right (name_ok n) (names_ok ns) h))
 
 -- ---- reading
 
--- the pieces of the first e bytes, and then names
-abbrev pub Read : Bytes → ℕ → Type 0
-Read s e = (ns : List Name) × (pieces s ≡ front (suc e) s ++ ns) × T (names_ok ns)
+-- the pieces are the parts between slashes
+pub pieces-split : (s : Bytes) → slice_split (λ b. eqb b 47) s ≡ pieces s
+unfolding pieces
+pieces-split [] = refl
+pieces-split (b ∷ s) = go (eqb b 47) (pieces-split s)
+  where
+    first : (ps : List Name) → onto_first b ps ≡ cut false b ps
+    first [] = refl
+    first (p ∷ ps) = refl
 
-pub read_none : (s : Bytes) → Read s (length s)
-unfolding names_ok front
-read_none s = ([], sym (append-nil (pieces (take (length s) s)) ∙ ap pieces (take-length s)), tt)
-
--- all is read
-pub read_all : (s : Bytes) (e : ℕ) → length s ≤ 1024 → e ≡ 0 → Read s e → true ≡ cell_ok s
-unfolding cell_ok path_ok path_fits front pieces body
-read_all s e l z r =
-    let ns = r.0 in
-    let p : pieces s ≡ [] ∷ ns = r.1 ∙ ap (λ (k : ℕ). pieces (take k s) ++ ns) z in
-    let b : 47 ∷ body ns ≡ 47 ∷ s = sym (ap body p) ∙ body-pieces s in
-    let t : body ns ≡ s = cc in
-    let n : names s ≡ ns = ap names (sym t) ∙ names-body ns (shown_all ns r.2) in
-    let f : leb (length (body ns)) 1024 ≡ true = is_true (leb (length (body ns)) 1024) (le→leb (length (body ns)) 1024 (omega (arith, ap length t))) in
-    let g : same (body ns) s ≡ true = ap (λ (x : Bytes). same x s) t ∙ is_true (same s s) (same_refl s) in
-    sym (ap (λ (x : List Name). (names_ok x && leb (length (body x)) 1024) && same (body x) s) n ∙ rw (is_true (names_ok ns) r.2, f, g))
+    go : (t : Bool) → slice_split (λ b. eqb b 47) s ≡ pieces s → cond t ([] ∷ slice_split (λ b. eqb b 47) s) (onto_first b (slice_split (λ b. eqb b 47) s)) ≡ cut t b (pieces s)
+    go true e = ap (λ (ps : List Name). [] ∷ ps) e
+    go false e = ap (onto_first b) e ∙ first (pieces s)
 
 -- a kept path has one piece more than names
 pub cell-pieces : (s : Bytes) → T (cell_ok s) → (pieces s ≡ [] ∷ names s) × T (names_ok (names s))
@@ -90,38 +88,40 @@ fails : (t : Bool) → (T t → ⊥) → false ≡ t
 fails true h = absurd (h tt)
 fails false h = refl
 
-module _ (s : Bytes) (e a : ℕ) (l : e ≤ length s) (r : Read s e) (p : PieceIs s a e) where
-  next : pieces s ≡ front a s ++ (part a e s ∷ r.0)
-  next = r.1 ∙ ap (λ (x : List Name). x ++ r.0) (ap (λ (k : ℕ). front k s) (sym (add-one e)) ∙ p.last) ∙ append_assoc (front a s) (part a e s ∷ []) r.0
+pub root-kept : true ≡ cell_ok []
+unfolding cell_ok path_ok names_ok path_fits names pieces keep vanishes same body
+root-kept = refl
 
-  -- the text does not begin with a slash
-  pub read-relative : 0 < e → a ≡ 0 → false ≡ cell_ok s
-  unfolding front
-  read-relative h z = fails (cell_ok s) (λ t.
-      let q : pieces s ≡ part a e s ∷ r.0 = next ∙ ap (λ (k : ℕ). front k s ++ (part a e s ∷ r.0)) z in
-      let x : part a e s ≡ [] = (let y : part a e s ∷ r.0 ≡ [] ∷ names s = sym q ∙ (cell-pieces s t).0 in cc) in
-      omega (arith, ap length x, part_length a e s l))
+-- a text that does not begin with a slash
+pub relative-kept : (b : ℕ) (s : Bytes) → (b ≡ 47 → ⊥) → false ≡ cell_ok (b ∷ s)
+unfolding pieces
+relative-kept b s n = fails (cell_ok (b ∷ s)) (λ t. other (pieces s) (sym (ap (λ (x : Bool). cut x b (pieces s)) (ne_eqb b 47 n)) ∙ (cell-pieces (b ∷ s) t).0))
+  where
+    other : (ps : List Name) → cut false b ps ≡ [] ∷ names (b ∷ s) → ⊥
+    other [] e = absurd (let x : b ∷ [] ≡ [] = cc in cc)
+    other (p ∷ ps) e = absurd (let x : b ∷ p ≡ [] = cc in cc)
 
-  module _ (h : 0 < a) where
-    up : suc (a - 1) ≡ a
-    up = omega arith
+module _ (s : Bytes) (l : length (47 ∷ s) ≤ 1024) where
+  kept-all : list_all piece_ok (pieces s) ≡ true → true ≡ cell_ok (47 ∷ s)
+  unfolding cell_ok path_ok path_fits pieces body
+  kept-all e =
+      let ns = pieces s in
+      let h : T (names_ok ns) = names-tested ns (pieces_no_slash s) e in
+      let b : 47 ∷ body ns ≡ 47 ∷ (47 ∷ s) = body-pieces (47 ∷ s) in
+      let t : body ns ≡ 47 ∷ s = cc in
+      let n : names (47 ∷ s) ≡ ns = ap names (sym t) ∙ names-body ns (shown_all ns h) in
+      let f : leb (length (body ns)) 1024 ≡ true = is_true (leb (length (body ns)) 1024) (le→leb (length (body ns)) 1024 (omega (arith, ap length t))) in
+      let g : same (body ns) (47 ∷ s) ≡ true = ap (λ (x : Bytes). same x (47 ∷ s)) t ∙ is_true (same (47 ∷ s) (47 ∷ s)) (same_refl (47 ∷ s)) in
+      sym (ap (λ (x : List Name). (names_ok x && leb (length (body x)) 1024) && same (body x) (47 ∷ s)) n ∙ rw (is_true (names_ok ns) h, f, g))
 
-    -- a piece that is no name
-    pub read-bad : piece_ok (part a e s) ≡ false → false ≡ cell_ok s
-    unfolding front
-    read-bad b = fails (cell_ok s) (λ t.
-        let f = first (take (a - 1) s) in
-        let q : pieces s ≡ (f.0 ∷ f.1) ++ (part a e s ∷ r.0) = next ∙ ap (λ (k : ℕ). front k s ++ (part a e s ∷ r.0)) (sym up) ∙ ap (λ (x : List Name). x ++ (part a e s ∷ r.0)) f.2 in
-        let y : [] ∷ names s ≡ f.0 ∷ (f.1 ++ (part a e s ∷ r.0)) = sym (cell-pieces s t).0 ∙ q in
-        let n : names s ≡ f.1 ++ (part a e s ∷ r.0) = cc in
-        subst T b (name-piece (part a e s) (among f.1 (part a e s) r.0 (subst (λ (x : List Name). T (names_ok x)) n (cell-pieces s t).1))))
+  kept-some : list_all piece_ok (pieces s) ≡ false → false ≡ cell_ok (47 ∷ s)
+  unfolding pieces
+  kept-some e = fails (cell_ok (47 ∷ s)) (λ t.
+      let c = cell-pieces (47 ∷ s) t in
+      let q : pieces s ≡ names (47 ∷ s) = (let x : [] ∷ pieces s ≡ [] ∷ names (47 ∷ s) = c.0 in cc) in
+      subst T (sym (tested-names (names (47 ∷ s)) c.1) ∙ ap (list_all piece_ok) (sym q) ∙ e) tt)
 
-    -- one that is
-    pub read_more : piece_ok (part a e s) ≡ true → Read s (a - 1)
-    unfolding names_ok
-    read_more b =
-        let w : NoSlash (part a e s) = (rw p.one at (pieces_no_slash (part a e s))).0 in (
-          part a e s ∷ r.0,
-          next ∙ ap (λ (k : ℕ). front k s ++ (part a e s ∷ r.0)) (sym up),
-          and_both (name_ok (part a e s)) (names_ok r.0) (piece-name (part a e s) w (subst T (sym b) tt)) r.2,
-        )
+  -- one that does is kept where its pieces are names
+  pub slash-kept : (t : Bool) → t ≡ list_all piece_ok (pieces s) → t ≡ cell_ok (47 ∷ s)
+  slash-kept true e = kept-all (sym e)
+  slash-kept false e = kept-some (sym e)

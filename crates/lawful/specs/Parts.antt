@@ -1,13 +1,13 @@
 -- The rules of a store, part by part, as the code tests them: on the slices, and not on the store that they are.
 -- Assumes nothing.
-use Rattle.std.specs.Prelude.{Bool, true, ◌&&◌, ◌||◌, cond, List, [], ◌≡◌, ℕ, suc, ◌+◌, ◌*◌, ◌≤◌, ◌<◌, T, eqb, leb, length, take, drop, get_or}
+use Rattle.std.specs.Prelude.{Bool, true, ◌&&◌, ◌||◌, cond, List, [], ℕ, suc, ◌+◌, ◌*◌, ◌≤◌, ◌<◌, T, eqb, leb, length, take, drop, get_or}
 use Rattle.text.specs.Utf8.{Bytes, text}
 use Rattle.path.specs.Path.{Name}
 use Rattle.model.specs.Rules.{target_ok}
 use Rattle.layout.specs.Numbers.{file_numbers, here_at, holder_at, kept_at, cell_bytes}
 use Rattle.layout.specs.Fields.{kind_of}
 use Rattle.layout.specs.Rows.{rows, name_total}
-use Rattle.layout.specs.Slots.{total, contents}
+use Rattle.layout.specs.Slots.{total, split, contents}
 use Rattle.layout.specs.Lawful.{rows_ok, slot_by, cell_ok}
 use Rattle.slots.specs.Uses.{uses_in, stands_from}
 use Rattle.lawful_entries.specs.Fits.{kind_in, form_ok}
@@ -37,17 +37,9 @@ pub record Kept (words : List ℕ) (paths : Bytes) (n : ℕ) : Type 0 where
 abbrev pub link_by : ℕ → Bytes → Bool
 link_by kind s = cond (eqb kind 3) (target_ok s) true
 
--- the bytes of every link
+-- the bytes of every link, where those of the slots stand one behind the other
 abbrev pub LinksRight : List ℕ → Bytes → Type 0
-LinksRight heads bs = (k : ℕ) → k < length heads → T (link_by (kind_of (get_or heads k 0)) (get_or (contents heads bs) k []))
-
--- the first link from slot i on, and where its bytes begin; those of slot i begin at `from`
-pub record NextLink (heads : List ℕ) (i from slot at : ℕ) : Type 0 where
-  pub first : i ≤ slot
-  pub within : slot ≤ length heads
-  pub place : at + total (drop slot heads) ≡ from + total (drop i heads)
-  pub others : (k : ℕ) → i ≤ k → k < slot → kind_of (get_or heads k 0) ≡ 3 → ⊥
-  pub link : slot < length heads → kind_of (get_or heads slot 0) ≡ 3
+LinksRight heads s = (k : ℕ) → k < length heads → T (link_by (kind_of (get_or heads k 0)) (get_or (split heads s) k []))
 
 -- every slot
 abbrev pub SlotsHeld : List ℕ → List ℕ → List ℕ → Bytes → Type 0

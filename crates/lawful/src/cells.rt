@@ -6,7 +6,8 @@ ghost use Rattle.lawful_limits.specs.Settles.{Settles};
 ghost use Rattle.lawful.specs.Parts.{piece_ok, kept_in, number_in, Kept};
 
 use layout::{CELL_BYTES, FILE_NUMBERS, HERE_AT, HOLDER_AT, KEPT_AT, NUMBER_WORDS};
-use path::pieces::{Piece, kind_of, piece_start};
+use path::lengths::LONGEST_NAME;
+use path::pieces::{Piece, kind_of};
 use text::text_ok;
 
 // The greatest length of a kept path.
@@ -16,35 +17,22 @@ const LONGEST: u64 = CELL_BYTES as u64;
 pub fn piece_ok(n: &[u8]) -> bool
     ensures { result ≡ piece_ok n.now }
 {
-    if kind_of(n, true) != Piece::Name {
-        return false;
-    }
-    if 255 < n.len() {
-        return false;
-    }
-    text_ok(n)
+    kind_of(n, true) == Piece::Name && n.len() <= LONGEST_NAME && text_ok(n)
 }
 
-// Whether a text is a path as it is kept: nothing, or names with a slash before each. Read from its end.
+// Whether a text is a path as it is kept: nothing, or names with a slash before each.
 pub fn path_ok(s: &[u8]) -> bool
     requires { length s.now ≤ cell_bytes }
     ensures { result ≡ cell_ok s.now }
 {
-    let mut e = s.len();
-    while 0 < e {
-        let a = piece_start(s, e);
-        if a == 0 {
-            return false;
-        }
-        if !piece_ok(&s[a..e]) {
-            return false;
-        }
-        e = a - 1;
+    match s.split_first() {
+        Some((first, names)) => *first == b'/' && names.split(|b| *b == b'/').all(piece_ok),
+        None => true,
     }
-    true
 }
 
-// Whether the n bytes of cell i that are used are a path as it is kept.
+// Whether the n bytes of cell i that are used are a path as it is kept. (Not inlined, so that the loop over closed numbers is short.)
+#[inline(never)]
 fn cell_ok(paths: &[u8], i: usize, n: u64) -> bool
     requires { (i ≤ file_numbers) × (paths_bytes ≤ length paths.now) }
     ensures { result ≡ kept_in paths.now i n }
@@ -53,8 +41,7 @@ fn cell_ok(paths: &[u8], i: usize, n: u64) -> bool
         return false;
     }
     let a = CELL_BYTES * i;
-    let e = a + n as usize;
-    path_ok(&paths[a..e])
+    path_ok(&paths[a..a + n as usize])
 }
 
 // Whether each file number is closed, or stands on one of n slots and has its path.
@@ -62,18 +49,13 @@ fn numbers_ok(words: &[u64], paths: &[u8], n: usize) -> bool
     requires { (extent_at ≤ length words.now) × (paths_bytes ≤ length paths.now) }
     ensures { Settles result ((j : ℕ) → j < file_numbers → T (number_in words.now paths.now n j)) }
 {
-    let mut j: usize = 0;
-    while j < FILE_NUMBERS {
+    for j in 0..FILE_NUMBERS {
         let h = words[HOLDER_AT + NUMBER_WORDS * j];
-        let used = words[KEPT_AT + NUMBER_WORDS * j];
-        j += 1;
         if h == 0 {
             continue;
         }
-        if n < h as usize {
-            return false;
-        }
-        if !cell_ok(paths, j, used) {
+        let used = words[KEPT_AT + NUMBER_WORDS * j];
+        if n < h as usize || !cell_ok(paths, j + 1, used) {
             return false;
         }
     }
@@ -85,8 +67,5 @@ pub fn kept_ok(words: &[u64], paths: &[u8], n: usize) -> bool
     requires { (extent_at ≤ length words.now) × (paths_bytes ≤ length paths.now) }
     ensures { Settles result (Kept words.now paths.now n) }
 {
-    if !numbers_ok(words, paths, n) {
-        return false;
-    }
-    cell_ok(paths, 0, words[HERE_AT])
+    numbers_ok(words, paths, n) && cell_ok(paths, 0, words[HERE_AT])
 }

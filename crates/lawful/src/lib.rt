@@ -22,13 +22,10 @@ fn parts_ok(words: &[u64], recs: &[u64], heads: &[u64], paths: &[u8], bytes: &[u
 {
     let names = held::names_total(recs);
     let rest = held::bytes_total(heads);
-    if bytes.len() < names + rest {
-        return false;
-    }
-    if !lawful_entries::entries_ok(recs, heads, bytes, names) {
-        return false;
-    }
-    if !cells::kept_ok(words, paths, heads.len()) {
+    if bytes.len() < names + rest
+        || !lawful_entries::entries_ok(recs, heads, bytes, names)
+        || !cells::kept_ok(words, paths, heads.len())
+    {
         return false;
     }
     held::slots_held(words, recs, heads, bytes, bytes.len() - rest)

@@ -6,9 +6,7 @@ ghost use Rattle.model.specs.Rules.{time_ok};
 pub fn known(times: &[i64])
     ensures { (i : ℕ) → T (time_ok (get_or times.now i (pos 0))) }
 {
-    let mut i = 0;
-    while i < times.len() {
-        let t = times[i];
-        i += 1;
+    for t in times {
+        let _read = *t;
     }
 }

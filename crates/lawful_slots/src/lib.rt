@@ -12,7 +12,8 @@ use layout::MOST_SLOTS;
 mod taken;
 
 // Whether every slot is right but for the bytes of links. What has a slot says what its word may be. Where then as many words are
-// not 0 as slots are taken, the words of all others are 0.
+// not 0 as slots are taken, the words of all others are 0. (Not inlined, so that what its loops read stays in registers.)
+#[inline(never)]
 pub fn slots_ok(words: &[u64], recs: &[u64], heads: &[u64]) -> bool
     requires { (extent_at ≤ length words.now) × (length heads.now ≤ most_slots)
         × Within (length heads.now) recs.now × Standing words.now }

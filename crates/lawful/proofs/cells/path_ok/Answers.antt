@@ -1,43 +1,27 @@
--- `path_ok` meets its contract. The loop's invariant: behind the first e bytes stand names, with a slash before each.
+-- `path_ok` meets its contract.
 -- Assumes nothing.
-use mathlib.Core.Path.{sym, ◌∙◌}
+use mathlib.Core.Path.{ap, ◌∙◌}
+use Prim.Native.Nat.{ℕ}
 use native.Mathlib.Omega.{arith}
-use borrow.Author.Tests.{not-true, not-false}
-use Rattle.lawful.proofs.KeptPaths.{read_none, read_all, read-relative, read-bad, read_more}
+use lib.Dec.{eqb}
+use borrow.Author.Tests.{ne_eqb}
+use Rattle.std.proofs.Common.{rules, tests}
+use Rattle.std.specs.List.{list_all}
+use Rattle.std.proofs.lemmas.List.{nil_from_length}
+use Rattle.std.proofs.lemmas.Iterator.Search.{all_from_yields_List}
+use Rattle.std.proofs.lemmas.Iterator.Splits.{YieldsList-from_slice_split}
+use Rattle.lawful.specs.Parts.{piece_ok}
+use Rattle.lawful.proofs.KeptPaths.{pieces-split, root-kept, relative-kept, slash-kept}
 use Rattle.lawful.proofs.cells.path_ok.Goals as goal
 
-pub loop-e-init : goal.loop-e-init
-loop-e-init c = (omega arith, read_none c.args.s.now)
+pub returns-then-first-eq47 : goal.returns-then-first-eq47
+returns-then-first-eq47 c =
+    let t = c.in-Some.names.now in let e = c.in-Some.ensures.cases in
+    let p = all_from_yields_List piece_ok _ _ c.all.result c.all.ensures.ran (YieldsList-from_slice_split _ (λ (b : ℕ). eqb b 47) t c.split.ensures.rest c.split.ensures.done c.split.ensures.closure (λ x b q k. search (rules, tests))) (λ x b q k. search (rules, tests)) in
+    rw (e.0, c.if-first-eq47.true) (slash-kept t (omega arith) c.all.result (p ∙ ap (list_all piece_ok) (pieces-split t)))
 
-pub piece_start-a-requires : goal.piece_start-a-requires
-piece_start-a-requires c = c.loop-e.invariant.0
+pub returns-else-first-eq47 : goal.returns-else-first-eq47
+returns-else-first-eq47 c = let e = c.in-Some.ensures.cases in rw (e.0, ne_eqb c.in-Some.first.now 47 c.if-first-eq47.false) (relative-kept c.in-Some.first.now c.in-Some.names.now c.if-first-eq47.false)
 
-pub returns-then-a-eq0 : goal.returns-then-a-eq0
-returns-then-a-eq0 c =
-    let a = c.args in let l = c.loop-e in let p = c.piece_start-a in
-    read-relative a.s.now l.e p.result l.invariant.0 l.invariant.1 p.ensures (omega arith) c.if-a-eq0.true
-
-pub slice_bounds-piece_ok-count : goal.slice_bounds-piece_ok-count
-slice_bounds-piece_ok-count c = omega (arith, c.piece_start-a.ensures.fits)
-
-pub slice_bounds-piece_ok-start : goal.slice_bounds-piece_ok-start
-slice_bounds-piece_ok-start c = omega (arith, c.piece_start-a.ensures.fits)
-
-pub returns-then-not-piece_ok : goal.returns-then-not-piece_ok
-returns-then-not-piece_ok c =
-    let a = c.args in let l = c.loop-e in let p = c.piece_start-a in let k = c.piece_ok in
-    read-bad a.s.now l.e p.result l.invariant.0 l.invariant.1 p.ensures (omega (arith, c.if-a-eq0.false)) (sym k.ensures ∙ not-true k.result c.if-not-piece_ok.true-raw)
-
-pub overflow_sub-e : goal.overflow_sub-e
-overflow_sub-e c = omega (arith, c.if-a-eq0.false)
-
-pub loop-e-smaller : goal.loop-e-smaller
-loop-e-smaller c = omega (arith, c.piece_start-a.ensures.fits, c.if-a-eq0.false)
-
-pub loop-e-preserved : goal.loop-e-preserved
-loop-e-preserved c =
-    let a = c.args in let l = c.loop-e in let p = c.piece_start-a in let k = c.piece_ok in
-    (omega (arith, p.ensures.fits), read_more a.s.now l.e p.result l.invariant.0 l.invariant.1 p.ensures (omega (arith, c.if-a-eq0.false)) (sym k.ensures ∙ not-false k.result c.if-not-piece_ok.false-raw))
-
-pub returns : goal.returns
-returns c = let a = c.args in let l = c.loop-e in read_all a.s.now l.e c.requires (omega arith) l.invariant.1
+pub returns-in-None : goal.returns-in-None
+returns-in-None c = let e = nil_from_length c.args.s.now c.in-None.ensures.cases in rw e root-kept
