@@ -5,18 +5,16 @@ use mathlib.Core.Bool.{false}
 use mathlib.Core.List.{List, [], ◌∷◌, ◌++◌}
 use mathlib.Core.Option.{Option}
 use mathlib.Core.Path.{◌≡◌, refl, sym, ap, ◌∙◌, subst}
-use Prim.Native.Nat.{ℕ, suc, ◌+◌, ◌-◌, ◌≤◌, ◌<◌}
+use Prim.Native.Nat.{ℕ, suc, ◌+◌, ◌-◌, ◌<◌}
 use native.Mathlib.Numerals.{add-one}
 use native.Mathlib.Omega.{arith}
 use lib.Dec.{T}
 use lib.ListN.{length, take, drop, get_or, length-append}
 use lib.Seq.{take-suc, take-append_seam}
-use Rattle.text.specs.Utf8.{Bytes}
 use Rattle.path.specs.Path.{Name}
 use Rattle.model.specs.Tree.{Path, Node, look}
 use Rattle.model.specs.Prog.{Stat, stat_of, on_some, answer}
 use Rattle.model.specs.Calls.States.{world_of}
-use Rattle.model.specs.Operations.Shows.{names_text}
 use Rattle.layout.specs.Fields.{depth_of, nlen_of}
 use Rattle.layout.specs.Rows.{Row, name_total, path_by}
 use Rattle.layout.specs.Store.{Store, count, rows_of, kind_at, state}
@@ -28,9 +26,8 @@ use Rattle.ask_find.specs.declared.Spot.{Spot}
 use Rattle.ask_find.specs.Paths.{slot_at, row_at, path_at}
 use Rattle.ask_find.specs.Spots.{At}
 use Rattle.ask_find.proofs.Records.{walk-behind, rest_at, path_next, path-look, path-depth, slot-low}
-use Rattle.ask_list.specs.Listed.{listing_of, listed_from, names_in, in_front, Leads, Roomy}
+use Rattle.ask_list.specs.Listed.{listing_of, listed_from, Leads}
 use Rattle.ask_list.proofs.Steps.{listing-at, stat-known, listed-on}
-use Rattle.ask_list.proofs.Words.{offset-low, behind-room, behind-text, behind-put}
 
 -- a name more
 pub total_next : (ws : List ℕ) (j : ℕ) → j < length ws → name_total (take j ws) + nlen_of (get_or ws j 0) ≡ name_total (take (j + 1) ws)
@@ -44,10 +41,6 @@ module _ (st : Store) (l : Lawful st) where
 
   pub listing-spot : (s : Spot) (p : Path) → At st s p → listing_of st p ≡ listed_from st (depth_of (get_or st.records s.at 0)) (s.at + 1)
   listing-spot s p a = ap (listing_of st) (sym a.path) ∙ listing-at st l s.at a.within
-
-  -- by the records that were read
-  pub listing_by : (ws : List ℕ) → st.records ≡ ws → (s : Spot) (p : Path) → At st s p → listing_of st p ≡ listed_from st (depth_of (get_or ws s.at 0)) (s.at + 1)
-  listing_by ws e s p a = listing-spot s p a ∙ ap (λ (us : List ℕ). listed_from st (depth_of (get_or us s.at 0)) (s.at + 1)) e
 
   pub spot-depth : (s : Spot) (p : Path) → At st s p → depth_of (get_or st.records s.at 0) ≡ length p
   spot-depth s p a = sym (path-depth st l s.at a.within) ∙ ap length a.path
@@ -112,44 +105,3 @@ module _ (st : Store) (l : Lawful st) where
 
     pub entry-up : take (length p) (path_at st s.at) ≡ p
     entry-up = ap (take (length p)) a.path ∙ take-append_seam p (x ∷ [])
-
--- ---- the text of the names
-
--- what `put_behind` asks
-pub record PutReady (ws : List ℕ) (bs : Bytes) (n i o d : ℕ) (out : Bytes) : Type 0 where
-  pub low : o ≤ length bs
-  pub room : name_total (take (n - (i + 1)) (drop (i + 1) ws)) ≤ length (take (length bs - o) (drop o bs))
-  pub fits : length (names_in d (take (n - (i + 1)) (drop (i + 1) ws)) (take (length bs - o) (drop o bs))) ≤ length out
-
-module _ (ws : List ℕ) (bs : Bytes) (n : ℕ) (s : Spot) (o d : ℕ) (f : o ≡ name_total (take (s.at + 1) ws)) (g : d ≡ depth_of (get_or ws s.at 0)) where
-  abbrev text : List ℕ → Bytes → ℕ → Bytes
-  text us cs k = names_in d (take (k - (s.at + 1)) (drop (s.at + 1) us)) (take (length cs - o) (drop o cs))
-
-  offset_in : (st : Store) → st.records ≡ ws → o ≡ name_total (take (s.at + 1) st.records)
-  offset_in st e = f ∙ ap (λ (us : List ℕ). name_total (take (s.at + 1) us)) (sym e)
-
-  depth_in : (st : Store) → st.records ≡ ws → d ≡ depth_of (get_or st.records s.at 0)
-  depth_in st e = g ∙ ap (λ (us : List ℕ). depth_of (get_or us s.at 0)) (sym e)
-
-  pub put-ready : (out : Bytes) → Roomy ws bs n s out → PutReady ws bs n s.at o d out
-  put-ready out r =
-      let h = r.held in
-      let st = h.store in
-      let l = h.lawful in
-      let a = h.at in
-      let e = h.records in
-      let z : length (text st.records st.bytes (count st)) ≡ length (text ws bs n) = λ j. length (text (e j) (h.bytes j) (h.counted j)) in
-      let x : name_total (take (count st - (s.at + 1)) (drop (s.at + 1) st.records)) ≡ name_total (take (n - (s.at + 1)) (drop (s.at + 1) ws)) = λ j. name_total (take (h.counted j - (s.at + 1)) (drop (s.at + 1) (e j))) in
-      let y : length (take (length st.bytes - o) (drop o st.bytes)) ≡ length (take (length bs - o) (drop o bs)) = ap (λ (cs : Bytes). length (take (length cs - o) (drop o cs))) h.bytes in
-      let w = ap length (ap (λ (p : Path). names_text (listing_of st p)) (sym a.path) ∙ behind-text st l s.at a.within o (offset_in st e) d (depth_in st e)) in
-      record {
-        low = omega (arith, offset-low st l s.at a.within o (offset_in st e), ap length h.bytes);
-        room = omega (arith, behind-room st l s.at a.within o (offset_in st e), x, y);
-        fits = omega (arith, r.fits, w, z);
-      }
-
-  pub put-told : (out new : Bytes) → new ≡ in_front (text ws bs n) out → (st : Store) → st.records ≡ ws → count st ≡ n → Lawful st → (p : Path) → At st s p → st.bytes ≡ bs
-      → new ≡ in_front (names_text (listing_of st p)) out
-  put-told out new w st e c l p a b =
-      behind-put st l s.at a.within o (offset_in st e) d (depth_in st e) out new (w ∙ sym (λ j. in_front (text (e j) (b j) (c j)) out))
-      ∙ ap (λ (q : Path). in_front (names_text (listing_of st q)) out) a.path

@@ -8,41 +8,25 @@ use Prim.Native.Nat.{ℕ, zero, suc, ◌+◌, ◌≤◌, ◌<◌}
 use native.Mathlib.Numerals.{add-one}
 use native.Mathlib.Omega.{arith}
 use lib.Dec.{T, leb, eqb}
-use lib.ListN.{length, take, drop, get_or, length-append, drop_of_length-le}
+use lib.ListN.{length, take, drop, get_or, drop_of_length-le}
 use borrow.Author.Tests.{eqb-true, le-leb, lt-leb, eq-eqb, ne_eqb}
-use Rattle.path.specs.Path.{Name}
 use Rattle.model.specs.Tree.{Path, dir, file, link, keep_if, in_order, under}
 use Rattle.model.specs.Prog.{Stat, a_dir, aFile, a_link, stat_of, children, listing}
 use Rattle.model.specs.Calls.States.{world_of}
 use Rattle.model.specs.Operations.Shows.{names_text}
-use Rattle.layout.specs.Fields.{depth_of, nlen_of}
-use Rattle.layout.specs.Rows.{Row, name_total, path_of, tree_from}
-use Rattle.layout.specs.Store.{Store, count, live, rows_of, meta_at, bytes_at, kind_at, node_at, state}
+use Rattle.layout.specs.Fields.{depth_of}
+use Rattle.layout.specs.Rows.{Row, path_of, tree_from}
+use Rattle.layout.specs.Store.{Store, count, rows_of, meta_at, bytes_at, kind_at, node_at, state}
 use Rattle.layout.specs.Lawful.{walk_ok, rows_ok, Lawful}
 use Rattle.layout.proofs.Entered.{has_file}
-use Rattle.layout.proofs.Named.{total-split}
 use Rattle.layout.proofs.Roots.{all_slots}
 use Rattle.layout.proofs.Walks.{SlotsIn}
 use Rattle.layout.specs.Parts.{path_after, dir_after}
 use Rattle.ask_find.specs.Paths.{slot_at, row_at, path_at}
-use Rattle.ask_find.proofs.Reading.{names_at, name-length}
-use Rattle.ask_find.proofs.Records.{rows_long, walk-behind, rest_at, parts_at, path_next, slot-low, path-depth}
+use Rattle.ask_find.proofs.Records.{rows_long, walk-behind, rest_at, parts_at, path_next, path-depth}
 use Rattle.ask_list.specs.Listed.{listing_at, entries_in, shown, row_names, listed_from}
 use Rattle.ask_list.proofs.Children.{children_at}
 use Rattle.ask_list.proofs.Ordered.{in_order_lem}
-
--- no name, no text
-pub text_none : (m : List (Name × Stat)) → m ≡ [] → names_text m ≡ []
-unfolding names_text
-text_none m e = ap names_text e
-
--- how long the text is
-abbrev pub text_length : List (Name × Stat) → ℕ
-text_length m = length (names_text m)
-
-pub text-zero : text_length [] ≡ 0
-unfolding names_text
-text-zero = refl
 
 -- ---- slots of some of the entries
 
@@ -106,20 +90,6 @@ module _ (st : Store) (l : Lawful st) where
     abbrev word : ℕ
     word = get_or st.records j 0
 
-    -- its name stands within the bytes
-    name-fits : name_total (take j (live st)) + nlen_of word ≤ length st.bytes
-    name-fits =
-        omega (
-          arith,
-          total-split (live st) j,
-          names_at st.records (count st) j (omega (arith, l.exact.records, l.counted)) h,
-          l.space,
-          l.exact.bytes,
-        )
-
-    name-long : length (row_at st j).name ≡ nlen_of word
-    name-long = name-length st.bytes (name_total (take j (live st))) (nlen_of word) name-fits
-
     -- the records from it on
     rest : drop j (rows_of st) ≡ row_at st j ∷ drop (j + 1) (rows_of st)
     rest = rest_at st l j h ∙ ap (λ (k : ℕ). row_at st j ∷ drop k (rows_of st)) (sym (add-one j))
@@ -141,20 +111,6 @@ module _ (st : Store) (l : Lawful st) where
       unfolding entries_in shown
       listed-on k s e = rw (rest, lt-leb (depth_of word) d (omega (arith, k)), eq-eqb (depth_of word) (suc d) k, e)
 
-      pub listed-one : depth_of word ≡ suc d → (s : Stat) × (listed_from st d j ≡ ((row_at st j).name, s) ∷ listed_from st d (j + 1))
-      listed-one k = let s = stat-known (slot_at st j) (slot-low st l j h) in (s.0, listed-on k s.0 s.1)
-
-      pub count-on : depth_of word ≡ suc d → length (listed_from st d j) ≡ 1 + length (listed_from st d (j + 1))
-      count-on k = ap length (listed-one k).1 ∙ omega arith
-
-      text_on : depth_of word ≡ suc d → names_text (listed_from st d j) ≡ (row_at st j).name ++ (0 ∷ names_text (listed_from st d (j + 1)))
-      unfolding names_text
-      text_on k = ap names_text (listed-one k).1
-
-      pub length-on : depth_of word ≡ suc d → length (names_text (listed_from st d j)) ≡ nlen_of word + 1 + length (names_text (listed_from st d (j + 1)))
-      length-on k =
-          ap length (text_on k) ∙ (length-append (row_at st j).name (0 ∷ names_text (listed_from st d (j + 1))) ∙ omega (arith, name-long))
-
   -- ---- the text
 
   shown-names : (rs : List Row) → SlotsIn (length st.heads) rs → names_text (shown (world_of (state st)) (node_at st) rs) ≡ row_names rs
@@ -163,6 +119,20 @@ module _ (st : Store) (l : Lawful st) where
   shown-names (r ∷ rs) h =
       let e : stat_of (world_of (state st)) (node_at st r.slot) ≡ some (stat-known r.slot h.0).0 = (stat-known r.slot h.0).1 in
       rw (e, shown-names rs h.1)
+
+  shown-long : (rs : List Row) → SlotsIn (length st.heads) rs → length (shown (world_of (state st)) (node_at st) rs) ≡ length rs
+  unfolding shown
+  shown-long [] h = refl
+  shown-long (r ∷ rs) h =
+      let e : stat_of (world_of (state st)) (node_at st r.slot) ≡ some (stat-known r.slot h.0).0 = (stat-known r.slot h.0).1 in
+      rw e (ap suc (shown-long rs h.1))
+
+  pub count_at : (i : ℕ) → i < count st → length (listing_at st i) ≡ length (entries_in (depth_of (get_or st.records i 0)) (drop (i + 1) (rows_of st)))
+  count_at i h =
+      let n = length st.heads in
+      let rs = drop (i + 1) (rows_of st) in
+      ap length (listing-at i h)
+      ∙ shown-long (entries_in (depth_of (get_or st.records i 0)) rs) (entries-slots n (depth_of (get_or st.records i 0)) rs (drop-slots n (i + 1) (rows_of st) (all_slots (kind_at st) n (rows_of st) l.entries)))
 
   pub text_at : (i : ℕ) → i < count st → names_text (listing_at st i) ≡ row_names (entries_in (depth_of (get_or st.records i 0)) (drop (i + 1) (rows_of st)))
   text_at i h =

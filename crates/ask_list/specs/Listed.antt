@@ -8,7 +8,7 @@ use Rattle.model.specs.Tree.{Path, Node, keep_if}
 use Rattle.model.specs.Prog.{World, Stat, stat_of, child, listing, bare?, stat?, answer}
 use Rattle.model.specs.Operations.Shows.{names_text}
 use Rattle.model.specs.Calls.States.{world_of}
-use Rattle.layout.specs.Rows.{Row, rows}
+use Rattle.layout.specs.Rows.{Row}
 use Rattle.layout.specs.Store.{Store, count, rows_of, node_at, state}
 use Rattle.layout.specs.Lawful.{Lawful}
 use Rattle.ask_find.specs.declared.Spot.{Spot}
@@ -34,10 +34,6 @@ shown world f (r ∷ rs) = child (r.name ∷ []) (stat_of world (f r.slot)) (sho
 unfoldable pub row_names : List Row → Bytes
 row_names [] = []
 row_names (r ∷ rs) = r.name ++ (0 ∷ row_names rs)
-
--- the names of a directory's entries, by the words of the records behind it and the bytes from their names on
-abbrev pub names_in : ℕ → List ℕ → Bytes → Bytes
-names_in d ws bs = row_names (entries_in d (rows ws bs))
 
 -- a text in front of another, the rest of which stays
 abbrev pub in_front : Bytes → Bytes → Bytes

@@ -1,50 +1,69 @@
--- `put_names` meets its contract. Assumes nothing.
-use mathlib.Core.Path.{◌≡◌, ap, ◌∙◌}
-use Prim.Native.Nat.{ℕ, ◌+◌}
+-- `put_names` meets its contract: the names written and those left are all. Assumes nothing.
+use mathlib.Core.List.{[], ◌∷◌, ◌++◌}
+use mathlib.Core.Path.{◌≡◌, sym, ap, ◌∙◌}
+use Prim.Native.Nat.{ℕ, ◌+◌, ◌-◌}
 use native.Mathlib.Omega.{arith}
-use lib.ListN.{take}
-use Rattle.layout.specs.Rows.{name_total}
-use Rattle.ask_find.proofs.Children.{Ready, ready}
-use Rattle.ask_list.proofs.Spotted.{PutReady, put-ready, put-told}
-use Rattle.ask_list.proofs.put_names.Goals.{After-put_behind-arg-1, Start}
+use lib.ListN.{length, take, drop, length-append}
+use Rattle.ask_list.specs.Listed.{in_front}
+use Rattle.ask_list.proofs.Entered.{left_in, Fits, name_in, name-long, text_of, text_on, text-end}
+use Rattle.ask_list.proofs.Given.{whole, whole-told, whole-room, whole-fits}
+use Rattle.ask_list.proofs.Texts.{written_start, written_same, written-room, written_next, written-end}
+use Rattle.ask_list.proofs.put_names.Goals.{In-Some}
 use Rattle.ask_list.proofs.put_names.Goals as goal
 
--- what the slices have
-at-hand : (c : Start) → let a = c.args in Ready a.records.now c.args.bytes.now a.count a.spot
-at-hand c = let a = c.args in ready a.records.now c.args.bytes.now a.count a.spot c.requires.held
+pub loop-entry-init : goal.loop-entry-init
+loop-entry-init c =
+    let g = c.args in
+    let e = ap left_in c.into_iter-entry-iterator.ensures.into_iter_gives ∙ c.below-entry-items.ensures in
+    (tt, tt, rw e (whole-fits g.records.now g.bytes.now g.count g.spot c.requires.held), rw e (written_start g.out.now (whole g.records.now g.bytes.now g.count g.spot)))
 
--- where the names behind the directory begin
-offset : (c : After-put_behind-arg-1) → let s = c.args in s.spot.off + c.nlen_of.result ≡ name_total (take (s.spot.at + 1) s.records.now)
-offset c = let s = c in ap (λ (k : ℕ). s.args.spot.off + k) c.nlen_of.ensures ∙ (at-hand c.before.before.before.before.before.before.before.before.before).next
+-- the text of the entry of this turn, and of those behind it
+more : (c : In-Some) → let b = c.args.bytes.now in text_of b (left_in c.loop-entry.entry-iterator) ≡ name_in b c.in-Some.entry ++ (0 ∷ text_of b (left_in c.next.new.self))
+more c = let b = c.args.bytes.now in ap (text_of b) c.in-Some.ensures.steps ∙ text_on b c.in-Some.entry (left_in c.next.new.self)
 
--- what they are given
-room : (c : After-put_behind-arg-1) → let s = c.args in
-    PutReady s.records.now s.bytes.now s.count s.spot.at (s.spot.off + c.nlen_of.result) c.depth_of-d.result s.out.now
-room c =
-    let s = c in
-    let g = s.args in
-    put-ready g.records.now g.bytes.now g.count g.spot _ _ (offset c) c.depth_of-d.ensures g.out.now s.requires
+-- its name stands within the bytes, and so do those of the others
+within : (c : In-Some) → Fits c.args.bytes.now (c.in-Some.entry ∷ left_in c.next.new.self)
+within c = rw c.in-Some.ensures.steps at c.loop-entry.invariant.2
 
-pub bounds-records-i : goal.bounds-records-i
-bounds-records-i c = let r = at-hand (goal.at.bounds-records-i c).Start in omega (arith, r.long, r.within, r.few, r.low)
+pub put_name-requires : goal.put_name-requires
+put_name-requires c =
+    let g = c.args in
+    let b = g.bytes.now in
+    let l = c.loop-entry in
+    let x = c.in-Some.entry in
+    let i = (goal.at.put_name-requires c).In-Some in
+    let z : x.spot.off + c.from-n.result - x.spot.off ≡ x.size = omega (arith, c.from-n.ensures) in
+    omega (
+      arith,
+      ap (λ (m : ℕ). length (take m (drop x.spot.off b))) z,
+      ap length (more i),
+      length-append (name_in b x) (0 ∷ text_of b (left_in c.next.new.self)),
+      written-room g.out.now (whole g.records.now b g.count g.spot) l.out l.k (text_of b (left_in l.entry-iterator)) (whole-room g.records.now b g.count g.spot g.out.now c.requires) l.invariant.3,
+    )
 
-pub overflow_add-o : goal.overflow_add-o
-overflow_add-o c = let r = at-hand (goal.at.overflow_add-o c).Start in omega (arith, r.low, c.nlen_of.ensures)
-
-pub slice_bounds-put_behind-end : goal.slice_bounds-put_behind-end
-slice_bounds-put_behind-end c = let r = at-hand (goal.at.slice_bounds-put_behind-end c).Start in omega (arith, r.long)
-
-pub slice_bounds-put_behind-count-2 : goal.slice_bounds-put_behind-count-2
-slice_bounds-put_behind-count-2 c = omega (arith, (room (goal.at.slice_bounds-put_behind-count-2 c).After-put_behind-arg-1).low)
-
-pub slice_bounds-put_behind-start-2 : goal.slice_bounds-put_behind-start-2
-slice_bounds-put_behind-start-2 c = omega (arith, (room (goal.at.slice_bounds-put_behind-start-2 c).After-put_behind-arg-1).low)
-
-pub put_behind-requires : goal.put_behind-requires
-put_behind-requires c = let r = room (goal.at.put_behind-requires c).After-put_behind-arg-1 in (r.room, r.fits)
+pub loop-entry-preserved : goal.loop-entry-preserved
+loop-entry-preserved c =
+    let g = c.args in
+    let b = g.bytes.now in
+    let l = c.loop-entry in
+    let x = c.in-Some.entry in
+    let i = (goal.at.loop-entry-preserved c).In-Some in
+    let u = whole g.records.now b g.count g.spot in
+    let z : x.spot.off + c.from-n.result - x.spot.off ≡ x.size = omega (arith, c.from-n.ensures) in (
+      tt,
+      tt,
+      (within i).1,
+      written_next g.out.now u l.out l.k (name_in b x) (take (x.spot.off + c.from-n.result - x.spot.off) (drop x.spot.off b)) (text_of b (left_in c.next.new.self)) c.put_name.new.out c.from-n.result
+          (whole-room g.records.now b g.count g.spot g.out.now c.requires) (ap (λ (m : ℕ). take m (drop x.spot.off b)) z) c.put_name.ensures (c.from-n.ensures ∙ sym (name-long b x (within i).0))
+          (written_same g.out.now u l.out l.k (text_of b (left_in l.entry-iterator)) _ (more i) l.invariant.3),
+    )
 
 pub returns : goal.returns
 returns c =
-    λ st e n l p a b.
+    λ st e n l p a f.
     let g = c.args in
-    put-told g.records.now g.bytes.now g.count g.spot _ c.depth_of-d.result (offset (goal.at.returns c).After-put_behind-arg-1) c.depth_of-d.ensures g.out.now _ c.put_behind.ensures st e n l p a b
+    let b = g.bytes.now in
+    let v = c.loop-entry in
+    let u = whole g.records.now b g.count g.spot in
+    written-end g.out.now u v.out v.k (written_same g.out.now u v.out v.k (text_of b (left_in v.entry-iterator)) [] (ap (text_of b) c.in-None.ensures.steps.0 ∙ text-end b) v.invariant.3)
+    ∙ ap (λ t. in_front t g.out.now) (whole-told g.records.now b g.count g.spot st l p a e n f)
