@@ -14,13 +14,14 @@ use lib.Seq.{get_or-set_same, get_or-set_other}
 use Rattle.text.specs.Utf8.{Bytes}
 use Rattle.path.specs.Path.{Name, proper}
 use Rattle.path.proofs.Laws.{and_left, and_right, and_both}
-use Rattle.model.specs.Tree.{Path}
+use Rattle.model.specs.Tree.{Path, Node}
 use Rattle.model.specs.Rules.{name_ok, target_ok}
-use Rattle.layout.specs.Fields.{depth_of, nlen_of, slot_of, record_word, kind_of, mode_of, head_word}
-use Rattle.layout.specs.Rows.{Row, rows, name_total, path_by, path_of}
+use Rattle.model.specs.Prog.{make, create, symlink}
+use Rattle.layout.specs.Fields.{len_of, depth_of, nlen_of, slot_of, record_word, kind_of, mode_of}
+use Rattle.layout.specs.Rows.{Row, rows, name_total, path_by, path_of, tree_from}
 use Rattle.layout.specs.Slots.{total, contents}
-use Rattle.layout.specs.Store.{Store, lent, count, live, rows_of, state}
-use Rattle.layout.specs.Lawful.{slot_by, Lawful}
+use Rattle.layout.specs.Store.{Store, lent, count, live, rows_of, kind_at, state}
+use Rattle.layout.specs.Lawful.{rows_ok, slot_by, Lawful}
 use Rattle.model.specs.Calls.States.{edited}
 use Rattle.layout.specs.Alike.{Spells}
 use Rattle.records.specs.Blocks.{row_of, Opened}
@@ -29,9 +30,14 @@ use Rattle.records.proofs.Entries.{rows-front}
 use Rattle.layout.proofs.Worded.{record-depth, record-name, record-slot, head-length, head-kind, head-mode}
 use Rattle.layout.specs.Parts.{path_after}
 use Rattle.slots.specs.Times.{times_set}
-use Rattle.edit_entry.specs.Filling.{Filled}
-use Rattle.edit_entry.specs.Growth.{new_row, Timed, Grown}
-use Rattle.edit_entry.specs.Insertion.{Vacancy, Holds, Insertable, insertion, InsertedAt}
+use Rattle.layout.specs.Kinds.{code_of}
+use Rattle.edit_entry.specs.declared.made.Fresh.{Fresh}
+use Rattle.edit_entry.specs.declared.made.Made.{Made}
+use Rattle.edit_entry.specs.declared.made.Made.TheVariants.{Directory, File, Link}
+use Rattle.edit_entry.specs.Filling.{head_made, Filled}
+use Rattle.edit_entry.specs.Growth.{new_row, new_meta, Timed, Grown}
+use Rattle.edit_entry.specs.Insertion.{Vacancy, Insertable, InsertedAt}
+use Rattle.edit_entry.specs.Made.{kind_made, bytes_made, Holds, insertion}
 use Rattle.edit_entry.proofs.Grows.{grown-dir, grown-file, grown-link}
 use Rattle.edit_entry.proofs.Places.{gap-tree, gap-rows}
 
@@ -102,73 +108,84 @@ times-filled st st' s t h e =
       other = λ r j y d. ap (λ (z : List ℤ). get_or z (4 * r + j) (pos 0)) e ∙ timed_other st.times s t h (4 * r + j) (λ n u q. d (slot_of_time r s j n y u q));
     }
 
--- ---- all steps
+-- ---- the slot
+
+code-low : (made : Made) → code_of (kind_made made) < 4
+code-low Directory = omega arith
+code-low (File c) = omega arith
+code-low (Link c) = omega arith
+
+module _ (made : Made) (new : Fresh) (small : length (bytes_made made) < 16777216) where
+  pub size-made : len_of (head_made made new) ≡ length (bytes_made made)
+  size-made = head-length (length (bytes_made made)) (code_of (kind_made made)) new.mode small (omega (arith, code-low made))
+
+  pub kind-made : kind_of (head_made made new) ≡ code_of (kind_made made)
+  kind-made = head-kind (length (bytes_made made)) (code_of (kind_made made)) new.mode small (omega (arith, code-low made))
+
+  pub mode-made : mode_of (head_made made new) ≡ new.mode
+  mode-made = head-mode (length (bytes_made made)) (code_of (kind_made made)) new.mode small (omega (arith, code-low made))
 
 -- the slot of a new entry obeys its rule
-pub holds-slot : (k n m : ℕ) (c : Bytes) → k < 4 → length c ≡ n → n < 16777216 → Holds k c → T (slot_by (kind_of (head_word n k m)) (head_word n k m) 1 false c)
-holds-slot k n m c j e h y = subst (λ (i : ℕ). T (slot_by i (head_word n k m) 1 false c)) (sym (head-kind n k m h (omega arith))) (go k refl y)
+pub holds-slot : (made : Made) (new : Fresh) → length (bytes_made made) < 16777216 → Holds made
+    → T (slot_by (kind_of (head_made made new)) (head_made made new) 1 false (bytes_made made))
+holds-slot made new small h =
+    subst (λ (i : ℕ). T (slot_by i (head_made made new) 1 false (bytes_made made))) (sym (kind-made made new small))
+    (go made (size-made made new small) h)
   where
-    go : (i : ℕ) → i ≡ k → Holds i c → T (slot_by i (head_word n k m) 1 false c)
-    go zero z w = absurd w
-    go (suc zero) z w = let u : length c ≡ 0 = ap length w in rw (head-length n k m h (omega arith) ∙ (sym e ∙ u)) tt
-    go (suc (suc zero)) z w = tt
-    go (suc (suc (suc zero))) z w = and_both (target_ok c) true w tt
-    go (suc (suc (suc (suc i)))) z w = absurd w
+    go : (y : Made) → len_of (head_made made new) ≡ length (bytes_made y) → Holds y → T (slot_by (code_of (kind_made y)) (head_made made new) 1 false (bytes_made y))
+    go Directory e w = rw e tt
+    go (File c) e w = tt
+    go (Link c) e w = and_both (target_ok c.now) true w tt
 
-holds-kind : (k : ℕ) (c : Bytes) → Holds k c → k < 4
-holds-kind zero c h = absurd h
-holds-kind (suc zero) c h = omega arith
-holds-kind (suc (suc zero)) c h = omega arith
-holds-kind (suc (suc (suc zero))) c h = omega arith
-holds-kind (suc (suc (suc (suc k)))) c h = absurd h
+-- ---- all steps
 
-module _ (ws rs hs : List ℕ) (ts : List ℤ) (ps bs : Bytes) (k depth : ℕ) (x : Name) (kind m : ℕ) (t : ℤ) (c : Bytes)
-    (l : Lawful (lent ws rs hs ts ps bs)) (i : Insertable (lent ws rs hs ts ps bs) x kind c) where
-  abbrev st : Store
-  st = lent ws rs hs ts ps bs
+-- a slot's number fits a record
+pub slot_small : {st : Store} {s : ℕ} → Lawful st → s < length st.heads → s < 65536
+slot_small l h = omega (arith, l.exact.heads, l.slotted, l.entry_limit.1)
+
+-- the place is one of those before or behind the entries, of a depth and a name that a record can hold
+pub record Placed (st : Store) (k depth : ℕ) (x : Name) : Type 0 where
+  pub last : k ≤ count st
+  pub small : depth < 65536
+  pub short : length x < 256
+
+module _ {st : Store} {k depth : ℕ} {x : Name} {made : Made} (l : Lawful st) (i : Insertable st x made) (p : Placed st k depth x) where
+  abbrev c : Bytes
+  c = bytes_made made
 
   n-small : length c < 16777216
   n-small = omega (arith, i.fits, l.byte_limit.1)
 
-  kind-small : kind < 4
-  kind-small = holds-kind kind c i.holds
-
-  -- ---- what the steps ask
-
-  pub slot_small : (s : ℕ) → s < length hs → s < 65536
-  slot_small s h = omega (arith, l.exact.heads, l.slotted, l.entry_limit.1)
-
-  module _ (last : k ≤ count st) (small : depth < 65536) (short : length x < 256) (s w : ℕ) (z : (s < length hs) × (get_or hs s 0 ≡ 0)) (e : w ≡ record_word depth (length x) s) where
-    pub may-open : (k ≤ count st) × (count st < length rs) × (count st ≤ 4096) × (nlen_of w ≡ length x) × (name_total (take (count st) rs) + length x ≤ length bs)
+  module _ {s w : ℕ} (z : (s < length st.heads) × (get_or st.heads s 0 ≡ 0)) (e : w ≡ record_word depth (length x) s) where
+    pub may-open : (k ≤ count st) × (count st < length st.records) × (count st ≤ 4096) × (nlen_of w ≡ length x) × (name_total (take (count st) st.records) + length x ≤ length st.bytes)
     may-open = (
-      last,
+      p.last,
       omega (arith, l.exact.records, i.more),
       omega (arith, l.counted, l.entry_limit.1),
-      ap nlen_of e ∙ record-name depth (length x) s small short,
+      ap nlen_of e ∙ record-name depth (length x) s p.small p.short,
       omega (arith, i.fits, l.exact.bytes),
     )
 
-    module _ (rs' : List ℕ) (bs₁ : Bytes) (o : Opened rs bs rs' bs₁ (count st) k w x) where
-      pub may-fill : (s < length hs) × (length hs ≤ 4128) × (get_or hs s 0 ≡ 0) × (4 * s + 4 ≤ length ts) × (kind < 4) × (length c ≤ 1048576) × (total hs + length c ≤ length bs₁)
+    module _ {rs' : List ℕ} {bs₁ : Bytes} (o : Opened st.records st.bytes rs' bs₁ (count st) k w x) where
+      pub may-fill : (s < length st.heads) × (length st.heads ≤ 4128) × (get_or st.heads s 0 ≡ 0) × (4 * s + 4 ≤ length st.times) × (length c ≤ 1048576) × (total st.heads + length c ≤ length bs₁)
       may-fill = (
         z.0,
         omega (arith, l.exact.heads, l.slotted, l.entry_limit.1),
         z.1,
         omega (arith, l.exact.times, l.exact.heads, l.slotted, z.0),
-        kind-small,
         omega (arith, i.fits, l.byte_limit.1),
         omega (arith, i.fits, l.exact.bytes, o.byte_count),
       )
 
-      module _ (hs' : List ℕ) (ts' : List ℤ) (bs' : Bytes) (ws' : List ℕ) (f : Filled hs ts bs₁ hs' ts' bs' s kind m t c) (g : ws' ≡ set ws 2 (count st + 1)) where
+      module _ {hs' : List ℕ} {ts' : List ℤ} {bs' : Bytes} {new : Fresh} (f : Filled st.heads st.times bs₁ hs' ts' bs' s made new) {ws' : List ℕ} (g : ws' ≡ set st.words 2 (count st + 1)) where
         abbrev st' : Store
-        st' = lent ws' rs' hs' ts' ps bs'
+        st' = lent ws' rs' hs' ts' st.paths bs'
 
         abbrev h : ℕ
-        h = head_word (length c) kind m
+        h = head_made made new
 
         new-count : count st' ≡ count st + 1
-        new-count = ap (λ (y : List ℕ). get_or y 2 0) g ∙ get_or-set_same ws 2 (count st + 1) 0 (omega (arith, l.exact.words))
+        new-count = ap (λ (y : List ℕ). get_or y 2 0) g ∙ get_or-set_same st.words 2 (count st + 1) 0 (omega (arith, l.exact.words))
 
         -- the new row
         abbrev row : Row
@@ -176,8 +193,8 @@ module _ (ws rs hs : List ℕ) (ts : List ℤ) (ps bs : Bytes) (k depth : ℕ) (
 
         row_is : row_of w x ≡ row
         row_is =
-            let d : depth_of w ≡ depth = ap depth_of e ∙ record-depth depth (length x) s small short in
-            let r : slot_of w ≡ s = ap slot_of e ∙ record-slot depth (length x) s small short in
+            let d : depth_of w ≡ depth = ap depth_of e ∙ record-depth depth (length x) s p.small p.short in
+            let r : slot_of w ≡ s = ap slot_of e ∙ record-slot depth (length x) s p.small p.short in
             rw (d, r) refl
 
         names-kept : take (name_total (take (count st + 1) rs')) bs' ≡ take (name_total (take (count st + 1) rs')) bs₁
@@ -189,23 +206,23 @@ module _ (ws rs hs : List ℕ) (ts : List ℤ) (ps bs : Bytes) (k depth : ℕ) (
             ∙ (rows-front (take (count st + 1) rs') bs' bs₁ names-kept
             ∙ (o.all ∙ ap (λ (r : Row). take k (rows_of st) ++ (r ∷ drop k (rows_of st))) row_is))
 
-        same-texts : contents hs bs₁ ≡ contents hs bs
-        same-texts = o.texts hs (omega (arith, i.fits, l.exact.bytes))
+        same-texts : contents st.heads bs₁ ≡ contents st.heads st.bytes
+        same-texts = o.texts st.heads (omega (arith, i.fits, l.exact.bytes))
 
-        timing : Timed st st' s t
-        timing = times-filled st st' s t may-fill.3 f.times
+        timing : Timed st st' s new.time
+        timing = times-filled st st' s new.time may-fill.3 f.times
 
-        pub grown : Grown st st' (take k (rows_of st)) (drop k (rows_of st)) row h c t
+        pub grown : Grown st st' (take k (rows_of st)) (drop k (rows_of st)) row h c new.time
         grown =
             record {
-              counted = record { words = g ∙ ap (set ws 2) (add-one (count st)); paths = refl; slots = ap length f.heads ∙ length-set hs s h };
+              counted = record { words = g ∙ ap (set st.words 2) (add-one (count st)); paths = refl; slots = ap length f.heads ∙ length-set st.heads s h };
               old = sym (take-append-drop k (rows_of st));
               new = new-rows;
               low = z.0;
               free = z.1;
               heads = f.heads;
               texts = f.texts ∙ ap (λ (cs : List Bytes). set cs s c) same-texts;
-              size = head-length (length c) kind m n-small (omega (arith, kind-small));
+              size = size-made made new n-small;
               times = timing;
               records = o.record_count;
               bytes = f.long ∙ o.byte_count;
@@ -214,52 +231,61 @@ module _ (ws rs hs : List ℕ) (ts : List ℤ) (ps bs : Bytes) (k depth : ℕ) (
               more = i.more;
             }
 
-        pub kind-is : kind_of h ≡ kind
-        kind-is = head-kind (length c) kind m n-small (omega (arith, kind-small))
-
-        pub mode-is : mode_of h ≡ m
-        mode-is = head-mode (length c) kind m n-small (omega (arith, kind-small))
-
         pub slot_ok_lem : T (slot_by (kind_of h) h 1 false c)
-        slot_ok_lem = holds-slot kind (length c) m c kind-small refl n-small i.holds
+        slot_ok_lem = holds-slot made new n-small i.holds
 
-        module _ (q : Path) (v : Vacancy st k depth q x) where
+        module _ {q : Path} (v : Vacancy st k depth q x) where
           abbrev a : List Row
           a = take k (rows_of st)
 
           abbrev b : List Row
           b = drop k (rows_of st)
 
+          abbrev to : Path
+          to = q ++ (x ∷ [])
+
           not-empty : a ≡ [] → ⊥
           not-empty y =
               let u = sym (length-take k (rows_of st)) ∙ ap length y in
-              omega (arith, u, v.first, v.last, length-rows (live st) bs, length-take (count st) rs, l.exact.records, l.counted)
+              omega (arith, u, v.first, v.last, length-rows (live st) st.bytes, length-take (count st) st.records, l.exact.records, l.counted)
 
-          grown-at : Grown st st' a b (new_row q x s) h c t
-          grown-at = subst (λ (d : ℕ). Grown st st' a b (record { depth = d; name = x; slot = s }) h c t) v.deep grown
+          grown-at : Grown st st' a b (new_row q x s) h c new.time
+          grown-at = subst (λ (d : ℕ). Grown st st' a b (record { depth = d; name = x; slot = s }) h c new.time) v.deep grown
 
-          inserted : Spells st' (edited (insertion kind (q ++ (x ∷ [])) m t c) (state st))
-          inserted = go kind refl i.holds
+          abbrev tree : (d : ℕ → Node) → tree_from d [] (a ++ (new_row q x s ∷ b)) ≡ tree_from d [] a ++ ((to, d s) ∷ tree_from d (path_after [] a) b)
+          tree = gap-tree st st' a b q x s h c new.time l grown-at v.gap
+
+          rules : T (rows_ok (kind_at st') (length st.heads) (a ++ (new_row q x s ∷ b)))
+          rules = gap-rows st st' a b q x s h c new.time l grown-at v.gap not-empty v.name
+
+          inserted : Spells st' (edited (insertion made new to) (state st))
+          inserted = go made refl
             where
-              go : (y : ℕ) → y ≡ kind → Holds y c → Spells st' (edited (insertion y (q ++ (x ∷ [])) m t c) (state st))
-              go zero e w = absurd w
-              go (suc zero) e w =
-                  subst (λ (y : ℕ). Spells st' (edited (insertion 1 (q ++ (x ∷ [])) y t c) (state st))) mode-is
-                  (grown-dir st st' a b (new_row q x s) h c t l grown-at (q ++ (x ∷ [])) (gap-tree st st' a b q x s h c t l grown-at v.gap) (gap-rows st st' a b q x s h c t l grown-at v.gap not-empty v.name) slot_ok_lem v.missing (kind-is ∙ sym e))
-              go (suc (suc zero)) e w =
-                  subst (λ (y : ℕ). Spells st' (edited (insertion 2 (q ++ (x ∷ [])) y t c) (state st))) mode-is
-                  (grown-file st st' a b (new_row q x s) h c t l grown-at (q ++ (x ∷ [])) (gap-tree st st' a b q x s h c t l grown-at v.gap) (gap-rows st st' a b q x s h c t l grown-at v.gap not-empty v.name) slot_ok_lem v.missing (kind-is ∙ sym e))
-              go (suc (suc (suc zero))) e w =
-                  subst (λ (y : ℕ). Spells st' (edited (insertion 3 (q ++ (x ∷ [])) y t c) (state st))) mode-is
-                  (grown-link st st' a b (new_row q x s) h c t l grown-at (q ++ (x ∷ [])) (gap-tree st st' a b q x s h c t l grown-at v.gap) (gap-rows st st' a b q x s h c t l grown-at v.gap not-empty v.name) slot_ok_lem v.missing (kind-is ∙ sym e))
-              go (suc (suc (suc (suc y)))) e w = absurd w
+              kind : {y : Made} → made ≡ y → kind_of h ≡ code_of (kind_made y)
+              kind e = kind-made made new n-small ∙ ap (λ (u : Made). code_of (kind_made u)) e
 
-          pub inserted-at : InsertedAt st st' k q x kind m t c
+              mode : mode_of h ≡ new.mode
+              mode = mode-made made new n-small
+
+              go : (y : Made) → made ≡ y → Spells st' (edited (insertion y new to) (state st))
+              go Directory e =
+                  subst (λ (m : ℕ). Spells st' (edited (make to (new_meta m new.time)) (state st))) mode
+                  (grown-dir st st' a b (new_row q x s) h c new.time l grown-at to tree rules slot_ok_lem v.missing (kind e))
+              go (File d) e =
+                  subst (λ (m : ℕ). Spells st' (edited (create to (record { meta = new_meta m new.time; bytes = d.now })) (state st))) mode
+                  (subst (λ (b : Bytes). Spells st' (edited (create to (record { meta = new_meta (mode_of h) new.time; bytes = b })) (state st))) (ap bytes_made e)
+                  (grown-file st st' a b (new_row q x s) h c new.time l grown-at to tree rules slot_ok_lem v.missing (kind e)))
+              go (Link d) e =
+                  subst (λ (m : ℕ). Spells st' (edited (symlink to (new_meta m new.time) d.now) (state st))) mode
+                  (subst (λ (b : Bytes). Spells st' (edited (symlink to (new_meta (mode_of h) new.time) b) (state st))) (ap bytes_made e)
+                  (grown-link st st' a b (new_row q x s) h c new.time l grown-at to tree rules slot_ok_lem v.missing (kind e)))
+
+          pub inserted-at : InsertedAt st st' k q x made new
           inserted-at = record { spells = inserted; slot = s; rows = grown-at.new }
 
 -- ---- the place of an entry
 
-module _ (st : Store) (k depth : ℕ) (q : Path) (x : Name) (l : Lawful st) (v : Vacancy st k depth q x) where
+module _ {st : Store} {k depth : ℕ} {q : Path} {x : Name} (l : Lawful st) (v : Vacancy st k depth q x) where
   pub name-length : length x < 256
   name-length = omega (arith, name-short x v.name)
 
@@ -271,3 +297,6 @@ module _ (st : Store) (k depth : ℕ) (q : Path) (x : Name) (l : Lawful st) (v :
       let e = length-rows (live st) st.bytes in
       let f = length-take (count st) st.records in
       omega (arith, a, b, d, e, f, v.deep, l.counted, l.entry_limit.1)
+
+  pub placed : Placed st k depth x
+  placed = record { last = v.last; small = depth_small; short = name-length }

@@ -12,7 +12,7 @@ use lib.Seq.{get_or-set_same, get_or-take, length-take-le, take-append_seam}
 use Rattle.text.specs.Utf8.{Bytes}
 use Rattle.path.specs.Path.{Name}
 use Rattle.model.specs.Tree.{Path}
-use Rattle.layout.specs.Fields.{slot_of, kind_of, head_word}
+use Rattle.layout.specs.Fields.{slot_of, kind_of}
 use Rattle.layout.specs.Rows.{Row, rows, name_total, path_of}
 use Rattle.layout.specs.Slots.{total}
 use Rattle.layout.specs.Store.{Store, lent, count, live, rows_of, kind_at, state}
@@ -21,18 +21,20 @@ use Rattle.model.specs.Calls.States.{nested}
 use Rattle.layout.specs.Alike.{Spells}
 use Rattle.layout.specs.Parts.{path_after, deepen}
 use Rattle.layout.proofs.Roots.{root_of}
-use Rattle.layout.proofs.Worded.{head-length, head-kind, head-mode}
 use Rattle.layout.proofs.Edited.Inserting.{root_is}
 use Rattle.layout.proofs.Edited.Nesting.{lowered, uses-lowered}
 use Rattle.records.specs.Blocks.{Liftable, Liftables, Lowered}
 use Rattle.records.proofs.Entries.{rows-front}
-use Rattle.edit_entry.specs.Filling.{Filled}
+use Rattle.edit_entry.specs.declared.made.Fresh.{Fresh}
+use Rattle.edit_entry.specs.declared.made.Made.TheVariants.{Directory}
+use Rattle.edit_entry.specs.Made.{fresh_meta}
+use Rattle.edit_entry.specs.Filling.{head_made, Filled}
 use Rattle.edit_entry.specs.Growth.{new_meta}
 use Rattle.edit_entry.specs.Removal.{EntryPath}
 use Rattle.edit_entry.specs.Nesting.{MayNest, NestedAt}
 use Rattle.edit_entry.proofs.Adding.{Added}
 use Rattle.edit_entry.proofs.Entries.{slot-low}
-use Rattle.edit_entry.proofs.Inserts.{name-short, times-filled, holds-slot}
+use Rattle.edit_entry.proofs.Inserts.{name-short, times-filled, size-made, kind-made, mode-made, holds-slot}
 use Rattle.edit_entry.proofs.Moves.{Low, Lifts, low_more, low_part, low_first, walk-low, lift-rows, root_ok_lem}
 use Rattle.edit_entry.proofs.Nests.{nested-spells}
 use Rattle.edit_entry.proofs.Removes as removes
@@ -42,7 +44,7 @@ low-lifts : (n : ℕ) (rs : List Row) → Low n rs → n ≤ 4096 → Lifts 1 0 
 low-lifts n [] h a = tt
 low-lifts n (r ∷ rs) h a = ((omega arith, omega (arith, h.0)), low-lifts n rs h.1 a)
 
-module _ (ws rs hs : List ℕ) (ts : List ℤ) (ps bs : Bytes) (i e : ℕ) (y : Name) (m : ℕ) (t : ℤ)
+module _ (ws rs hs : List ℕ) (ts : List ℤ) (ps bs : Bytes) (i e : ℕ) (y : Name)
     (l : Lawful (lent ws rs hs ts ps bs)) (n : MayNest (lent ws rs hs ts ps bs) i e y) where
   abbrev st : Store
   st = lent ws rs hs ts ps bs
@@ -113,23 +115,22 @@ module _ (ws rs hs : List ℕ) (ts : List ℤ) (ps bs : Bytes) (i e : ℕ) (y : 
   )
 
   module _ (s : ℕ) (z : (s < length hs) × (get_or hs s 0 ≡ 0)) (rs' : List ℕ) (bs₁ : Bytes) (o : Lowered rs bs rs' bs₁ (count st) i e s y) where
-    pub may-fill : (s < length hs) × (length hs ≤ 4128) × (get_or hs s 0 ≡ 0) × (4 * s + 4 ≤ length ts) × (1 < 4) × (0 ≤ 1048576) × (total hs + 0 ≤ length bs₁)
+    pub may-fill : (s < length hs) × (length hs ≤ 4128) × (get_or hs s 0 ≡ 0) × (4 * s + 4 ≤ length ts) × (0 ≤ 1048576) × (total hs + 0 ≤ length bs₁)
     may-fill = (
       z.0,
       omega (arith, l.exact.heads, l.slotted, l.entry_limit.1),
       z.1,
       omega (arith, l.exact.times, l.exact.heads, l.slotted, z.0),
       omega arith,
-      omega arith,
       omega (arith, n.fits, l.exact.bytes, o.byte_count),
     )
 
-    module _ (hs' : List ℕ) (ts' : List ℤ) (bs' : Bytes) (ws' : List ℕ) (f : Filled hs ts bs₁ hs' ts' bs' s 1 m t []) (g : ws' ≡ set ws 2 (count st + 1)) where
+    module _ (hs' : List ℕ) (ts' : List ℤ) (bs' : Bytes) (ws' : List ℕ) (new : Fresh) (f : Filled hs ts bs₁ hs' ts' bs' s Directory new) (g : ws' ≡ set ws 2 (count st + 1)) where
       abbrev st' : Store
       st' = lent ws' rs' hs' ts' ps bs'
 
       abbrev h : ℕ
-      h = head_word 0 1 m
+      h = head_made Directory new
 
       new-count : count st' ≡ count st + 1
       new-count = ap (λ (u : List ℕ). get_or u 2 0) g ∙ get_or-set_same ws 2 (count st + 1) 0 (omega (arith, l.exact.words))
@@ -142,7 +143,7 @@ module _ (ws rs hs : List ℕ) (ts : List ℤ) (ps bs : Bytes) (i e : ℕ) (y : 
           ap (λ (k : ℕ). rows (take k rs') bs') new-count
           ∙ (rows-front (take (count st + 1) rs') bs' bs₁ names-kept ∙ o.all (root ∷ a) row x b whole front_long block-long)
 
-      added : Added st st' (root ∷ (a ++ (row ∷ (x ++ b)))) (lowered root a row x b s y) s (length y) h [] t
+      added : Added st st' (root ∷ (a ++ (row ∷ (x ++ b)))) (lowered root a row x b s y) s (length y) h [] new.time
       added =
           record {
             counted = record { words = g ∙ ap (set ws 2) (add-one (count st)); paths = refl; slots = ap length f.heads ∙ length-set hs s h };
@@ -153,8 +154,8 @@ module _ (ws rs hs : List ℕ) (ts : List ℤ) (ps bs : Bytes) (i e : ℕ) (y : 
             free = z.1;
             heads = f.heads;
             texts = f.texts ∙ ap (λ (cs : List Bytes). set cs s []) (o.texts hs (omega (arith, n.fits, l.exact.bytes)));
-            size = head-length 0 1 m (omega arith) (omega arith);
-            times = times-filled st st' s t may-fill.3 f.times;
+            size = size-made Directory new (omega arith);
+            times = times-filled st st' s new.time may-fill.3 f.times;
             records = o.record_count;
             bytes = f.long ∙ o.byte_count;
             names = ap (λ (k : ℕ). name_total (take k rs')) new-count ∙ o.sum;
@@ -163,7 +164,7 @@ module _ (ws rs hs : List ℕ) (ts : List ℤ) (ps bs : Bytes) (i e : ℕ) (y : 
           }
 
       is-dir : kind_of h ≡ 1
-      is-dir = head-kind 0 1 m (omega arith) (omega arith)
+      is-dir = kind-made Directory new (omega arith)
 
       -- the first entries, the new one and the one below it
       first_rows : take (suc (suc i)) (rows_of st') ≡ take i (rows_of st) ++ (record { depth = row.depth; name = row.name; slot = s } ∷ (record { depth = suc row.depth; name = y; slot = row.slot } ∷ []))
@@ -175,14 +176,14 @@ module _ (ws rs hs : List ℕ) (ts : List ℤ) (ps bs : Bytes) (i e : ℕ) (y : 
           ∙ (ap (take (length ((root ∷ a) ++ two))) (sym (append_assoc (root ∷ a) two rest))
           ∙ (take-append_seam ((root ∷ a) ++ two) rest ∙ ap (λ (z : List Row). z ++ two) (sym (removes.part ws rs hs ts ps bs i e l n.block).front)))
 
-      nested-by : (p : Path) → EntryPath st i p → Spells st' (nested p y (new_meta m t) (state st))
+      nested-by : (p : Path) → EntryPath st i p → Spells st' (nested p y (fresh_meta new) (state st))
       nested-by p k =
-          subst (λ (q : Path). Spells st' (nested q y (new_meta m t) (state st))) (sym (removes.entry-path ws rs hs ts ps bs i e l n.block) ∙ k)
-          (subst (λ (v : ℕ). Spells st' (nested (path_of (path_after [] a) row) y (new_meta v t) (state st))) (head-mode 0 1 m (omega arith) (omega arith))
-          (nested-spells st st' root a row x b y s h t l added (removes.below ws rs hs ts ps bs i e l n.block) (removes.behind ws rs hs ts ps bs i e l n.block) n.name is-dir
-          (holds-slot 1 0 m [] (omega arith) refl (omega arith) refl)))
+          subst (λ (q : Path). Spells st' (nested q y (fresh_meta new) (state st))) (sym (removes.entry-path ws rs hs ts ps bs i e l n.block) ∙ k)
+          (subst (λ (v : ℕ). Spells st' (nested (path_of (path_after [] a) row) y (new_meta v new.time) (state st))) (mode-made Directory new (omega arith))
+          (nested-spells st st' root a row x b y s h new.time l added (removes.below ws rs hs ts ps bs i e l n.block) (removes.behind ws rs hs ts ps bs i e l n.block) n.name is-dir
+          (holds-slot Directory new (omega arith) tt)))
 
-      pub nested_at : (p : Path) → EntryPath st i p → NestedAt st st' i y p m t
+      pub nested_at : (p : Path) → EntryPath st i p → NestedAt st st' i y p new
       nested_at p k = record {
         spells = nested-by p k;
         row = row;

@@ -1,8 +1,10 @@
 pub mod Carriage
 pub mod Clearing
+pub mod Lent
 pub mod Filling
 pub mod Growth
 pub mod Insertion
+pub mod Made
 pub mod Movement
 pub mod Nesting
 pub mod Removal

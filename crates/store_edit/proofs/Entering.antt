@@ -25,7 +25,7 @@ use Rattle.ask_find.specs.declared.Spot.{Spot}
 use Rattle.ask_find.proofs.Records.{slot-low, path-look, path-slot}
 use Rattle.ask_entry.specs.Reads.{kind_by}
 use Rattle.ask_entry.proofs.Stats.{kind-told}
-use Rattle.ask_entry.proofs.Opened.{open-low}
+use Rattle.ask_entry.proofs.Numbers.{open-low}
 use Rattle.edit_room.specs.Extents.{trim}
 use Rattle.edit_slot.specs.Changes.{Changes}
 use Rattle.store.specs.Shows.{Shows, Stands, says}

@@ -9,7 +9,7 @@ use native.Mathlib.Omega.{arith}
 use lib.ListN.{length, take, get_or, replicate, length-append, length-take, length-replicate}
 use Rattle.text.specs.Utf8.{Bytes}
 use Rattle.model.specs.Tree.{Path, Time, Open, write, resize, file_of, open_of}
-use Rattle.model.specs.Prog.{aFile, Position, kind?, open?, held?, answer, on_some, Edit, change, change_held}
+use Rattle.model.specs.Prog.{aFile, Position, kind?, held?, answer, on_some, Edit, change, change_held}
 use Rattle.model.specs.Operations.Numbers.{resized}
 use Rattle.model.specs.Calls.States.{State, world_of, edited}
 use Rattle.model.proofs.Entries.{clash, some_inj}
@@ -26,7 +26,7 @@ use Rattle.layout.proofs.Slotted.{bytes-length}
 use Rattle.layout.proofs.Tables.{file_at, open_there}
 use Rattle.layout.proofs.Used.{bytes-used}
 use Rattle.ask_find.specs.declared.Spot.{Spot}
-use Rattle.ask_entry.proofs.Opened.{word_low, held_bytes}
+use Rattle.ask_entry.proofs.Numbers.{held-told}
 use Rattle.edit_room.specs.Extents.{trim}
 use Rattle.edit_slot.specs.Changes.{HasRoom}
 use Rattle.store.specs.Shows.{Shows, Stands, says}
@@ -101,9 +101,9 @@ module _ (st : Store) (s : State) (h : Shows st s) where
   -- they are those of its slot
   pub held-slot : (n : ℕ) (b : Bytes) → says (held? n) s ≡ some b → (k : ℕ) → holder (trim st) n ≡ suc k → bytes_at (trim st) k ≡ b
   held-slot n b e k d =
-      let o = held_is n b e in
-      let w = open_at st s h n o in
-      some_inj (sym (held_bytes (trim st) l n (suc k) (sym d ∙ sym (word_low st.words n 5 w.0)) o.0 (told st s h (open? n) ∙ o.1) (bytes_at (trim st) k) (ap (bytes_at (trim st)) (let y : k ≡ suc k - 1 = omega arith in y))) ∙ (told st s h (held? n) ∙ e))
+      let w = open_at st s h n (held_is n b e) in
+      let z : holder (trim st) n - 1 ≡ k = omega (arith, d) in
+      some_inj (sym (held-told (trim st) l n w.0 (λ q. omega (arith, q, d)) ∙ ap (λ (j : ℕ). some (bytes_at (trim st) j)) z) ∙ (told st s h (held? n) ∙ e))
 
   pub resize-may : (n size : ℕ) (b : Bytes) → MayResize n size b s → (k : ℕ) → holder (trim st) n ≡ suc k → HasRoom (trim st) k size
   resize-may n size b m k d =

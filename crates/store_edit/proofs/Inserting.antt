@@ -6,16 +6,15 @@ use mathlib.Core.Bool.{Bool, false, cond}
 use mathlib.Core.List.{List, [], ◌∷◌, ◌++◌, append_assoc}
 use mathlib.Core.Option.{Option, none, some}
 use mathlib.Core.Path.{◌≡◌, refl, sym, ap, ◌∙◌, subst}
-use Prim.Native.Nat.{ℕ, zero, suc, ◌+◌, ◌≤◌, ◌<◌}
+use Prim.Native.Nat.{ℕ, suc, ◌+◌, ◌≤◌, ◌<◌}
 use native.Mathlib.Decide.{ℕ_discrete}
 use native.Mathlib.Omega.{arith}
 use lib.Dec.{T}
 use lib.ListN.{length, take, drop, get_or, length-append, take-append-drop}
 use lib.Seq.{get_or-take, length-take-le, take_at}
 use borrow.Author.Tests.{ne_eqb}
-use Rattle.text.specs.Utf8.{Bytes}
 use Rattle.path.specs.Path.{Name}
-use Rattle.model.specs.Tree.{Path, Node, Time, look, name_length}
+use Rattle.model.specs.Tree.{Path, Node, look, name_length}
 use Rattle.model.specs.Prog.{node_kind, kind?, answer, on_some}
 use Rattle.model.specs.Rules.{name_ok}
 use Rattle.model.specs.Calls.States.{State, edited}
@@ -34,16 +33,19 @@ use Rattle.layout.proofs.Roots.{all_slots}
 use Rattle.layout.proofs.Used.{entries-used, bytes-used}
 use Rattle.layout.proofs.Walks.{SlotsIn}
 use Rattle.ask_find.specs.declared.Gap.{Gap}
-use Rattle.ask_find.specs.declared.Spot.{Spot}
 use Rattle.ask_find.specs.Spots.{At, Room, between, instead, Vacant}
 use Rattle.ask_find.proofs.Records.{rows_long, total-live, path-look}
-use Rattle.edit_entry.specs.Growth.{new_row, new_meta}
-use Rattle.edit_entry.specs.Insertion.{Holds, Insertable, insertion, MayInsert, InsertedAt}
+use Rattle.edit_entry.specs.declared.made.Fresh.{Fresh}
+use Rattle.edit_entry.specs.declared.made.Made.{Made}
+use Rattle.edit_entry.specs.declared.made.Made.TheVariants.{Directory, File, Link}
+use Rattle.edit_entry.specs.Growth.{new_row}
+use Rattle.edit_entry.specs.Insertion.{Insertable, MayInsert, InsertedAt}
+use Rattle.edit_entry.specs.Made.{bytes_made, Holds, fresh_meta, insertion}
 use Rattle.edit_room.specs.Extents.{trim, Resized, Reserved}
 use Rattle.store.specs.Shows.{Shows, Stands, says}
 use Rattle.store.proofs.Asked.{told}
 use Rattle.store_edit.specs.Turns.{Fits}
-use Rattle.store_edit.specs.Entries.{MayMake, Makes}
+use Rattle.store_edit.specs.Entries.{MayMake}
 use Rattle.store_edit.proofs.Carrying.{whole, trim_whole, shows-resized}
 use Rattle.store_edit.proofs.Fitting.{was_spaced, fits-back}
 use Rattle.store_edit.proofs.Resizing.{count-resized, rows-resized}
@@ -120,8 +122,7 @@ module _ {st u : Store} {s : State} (h : Shows st s) (r : Reserved st u) (recs :
   abbrev was : State
   was = state (trim u)
 
-  module _ (d : Path) (x : Name) (kind m : ℕ) (t : Time) (c : Bytes) (o : Holds kind c) (f : Fits (edited (insertion kind (d ++ (x ∷ [])) m t c) s))
-      (e : look was.tree (d ++ (x ∷ [])) ≡ none) where
+  module _ (d : Path) (x : Name) (made : Made) (new : Fresh) (o : Holds made) (f : Fits (edited (insertion made new (d ++ (x ∷ []))) s)) (e : look was.tree (d ++ (x ∷ [])) ≡ none) where
     abbrev p : Path
     p = d ++ (x ∷ [])
 
@@ -129,31 +130,32 @@ module _ {st u : Store} {s : State} (h : Shows st s) (r : Reserved st u) (recs :
     unfolding name_length
     name_is = last_name_lem d x []
 
-    allowed : Insertable (trim u) x kind c
-    allowed = go kind o f
+    allowed : Insertable (trim u) x made
+    allowed = go made o f
       where
-        fit : (grown : ℕ) (v : State) → Uses was v 1 0 grown 0 → grown ≡ length x + length c → Fits v → v.most ≡ most (trim u) → v.room ≡ room (trim u) → (k : ℕ) → Holds k c → Insertable (trim u) x k c
-        fit grown v a b z i j k q = record {
+        fit : (y : Made) (grown : ℕ) (v : State) → Uses was v 1 0 grown 0 → grown ≡ length x + length (bytes_made y) → Fits v → v.most ≡ most (trim u) → v.room ≡ room (trim u) → Holds y → Insertable (trim u) x y
+        fit y grown v a b z i j q = record {
           more = omega (arith, a.entries, entries-used (trim u) l, z.0, i);
           fits = omega (arith, a.bytes, bytes-used (trim u) l, z.1, j, b);
           holds = q;
         }
 
-        go : (k : ℕ) → Holds k c → Fits (edited (insertion k p m t c) s) → Insertable (trim u) x k c
-        go zero q z = absurd q
-        go (suc zero) q z =
-            fit (name_length p) (edited (insertion 1 p m t c) was) (after-make was (was_spaced u s w) p (new_meta m t) e) (omega (arith, name_is, ap length q)) (fits-back u s w (insertion 1 p m t c ∷ []) z) refl refl 1 q
-        go (suc (suc zero)) q z =
-            fit (name_length p + length c) (edited (insertion 2 p m t c) was) (after-create was (was_spaced u s w) p (record { meta = new_meta m t; bytes = c }) e) (omega (arith, name_is)) (fits-back u s w (insertion 2 p m t c ∷ []) z) refl refl 2 q
-        go (suc (suc (suc zero))) q z =
-            fit (name_length p + length c) (edited (insertion 3 p m t c) was) (after-symlink was (was_spaced u s w) p (new_meta m t) c e) (omega (arith, name_is)) (fits-back u s w (insertion 3 p m t c ∷ []) z) refl refl 3 q
-        go (suc (suc (suc (suc k)))) q z = absurd q
+        go : (y : Made) → Holds y → Fits (edited (insertion y new p) s) → Insertable (trim u) x y
+        go Directory q z =
+            fit Directory (name_length p) (edited (insertion Directory new p) was) (after-make was (was_spaced u s w) p (fresh_meta new) e) (omega (arith, name_is))
+            (fits-back u s w (insertion Directory new p ∷ []) z) refl refl q
+        go (File c) q z =
+            fit (File c) (name_length p + length c.now) (edited (insertion (File c) new p) was) (after-create was (was_spaced u s w) p (record { meta = fresh_meta new; bytes = c.now }) e)
+            (omega (arith, name_is)) (fits-back u s w (insertion (File c) new p ∷ []) z) refl refl q
+        go (Link c) q z =
+            fit (Link c) (name_length p + length c.now) (edited (insertion (Link c) new p) was) (after-symlink was (was_spaced u s w) p (fresh_meta new) c.now e) (omega (arith, name_is))
+            (fits-back u s w (insertion (Link c) new p ∷ []) z) refl refl q
 
   -- ---- what an insertion asks
 
-  pub insert-may : (x : Name) (gap : Gap) (kind m : ℕ) (t : Time) (c : Bytes) (d : Path) → T (name_ok x) → Holds kind c
-      → MayMake x gap (λ p. insertion kind p m t c) st s d → MayInsert (trim u) gap.at gap.depth d x kind c
-  insert-may x gap kind m t c d n o f = record {
+  pub insert-may : (made : Made) (new : Fresh) {x : Name} {gap : Gap} {d : Path} → T (name_ok x) → Holds made → MayMake x gap (insertion made new) st s d
+      → MayInsert (trim u) gap.at gap.depth d x made
+  insert-may made new {x} {gap} {d} n o f = record {
     vacant = record {
       first = vac.first;
       last = omega (arith, vac.last, count-resized st u r.resized);
@@ -172,8 +174,8 @@ module _ {st u : Store} {s : State} (h : Shows st s) (r : Reserved st u) (recs :
       missing : look was.tree (d ++ (x ∷ [])) ≡ none
       missing = look-missing u s w (d ++ (x ∷ [])) f.free.missing
 
-      may : Insertable (trim u) x kind c
-      may = allowed d x kind m t c o f.fits missing
+      may : Insertable (trim u) x made
+      may = allowed d x made new o f.fits missing
 
       -- an entry that counts as out has another path
       room-between : Room (trim st) f.free.hidden d x gap.at → Between (kind_at (trim st)) (take gap.at (rows_of (trim st))) (drop gap.at (rows_of (trim st))) d x
@@ -211,30 +213,16 @@ at_behind a v la lv k off r rest p h o e z =
     }
 
 -- the new entry
-pub at_inserted : (a v : Store) → Lawful a → (k off kind m : ℕ) (t : Time) (c : Bytes) (q : Path) (x : Name) → k ≤ count a → off ≡ name_total (take k a.records)
-    → take (length q) (path_after [] (take k (rows_of a))) ≡ q → InsertedAt a v k q x kind m t c → At v (record { at = k; off = off }) (q ++ (x ∷ []))
-at_inserted a v l k off kind m t c q x h o g z =
+pub at_inserted : (a v : Store) → Lawful a → (k off : ℕ) (made : Made) (new : Fresh) (q : Path) (x : Name) → k ≤ count a → off ≡ name_total (take k a.records)
+    → take (length q) (path_after [] (take k (rows_of a))) ≡ q → InsertedAt a v k q x made new → At v (record { at = k; off = off }) (q ++ (x ∷ []))
+at_inserted a v l k off made new q x h o g z =
     at_behind a v l z.spells.lawful k off (new_row q x z.slot) (drop k (rows_of a)) (q ++ (x ∷ [])) h o z.rows (ap (λ (r : Path). r ++ (x ∷ [])) g)
-
--- a time that was passed on is the time that was given
-pub same_inserted : {a v : Store} {k kind m : ℕ} {t u : Time} {c : Bytes} {q : Path} {x : Name} → t ≡ u → InsertedAt a v k q x kind m t c → InsertedAt a v k q x kind m u c
-same_inserted {a = a} {v = v} {k = k} {kind = kind} {m = m} {c = c} {q = q} {x = x} e z = subst (λ (y : Time). InsertedAt a v k q x kind m y c) e z
 
 -- the spot of the gap is the new entry's
 module _ {st u v : Store} {s : State} (h : Shows st s) (r : Reserved st u) (recs : u.records ≡ st.records) (bs : u.bytes ≡ st.bytes) where
-  pub stands-new : {x : Name} {kind m n : ℕ} {t : Time} {c : Bytes} {d : Path} (gap : Gap) → Vacant (trim st) n d x gap → MayInsert (trim u) gap.at gap.depth d x kind c
-      → InsertedAt (trim u) v gap.at d x kind m t c → Stands (whole u v) (record { at = gap.at; off = gap.off }) (d ++ (x ∷ []))
-  stands-new {x = x} {kind = kind} {m = m} {t = t} {c = c} {d = d} gap a may z =
+  pub stands-new : {x : Name} {made : Made} {new : Fresh} {n : ℕ} {d : Path} (gap : Gap) → Vacant (trim st) n d x gap → MayInsert (trim u) gap.at gap.depth d x made
+      → InsertedAt (trim u) v gap.at d x made new → Stands (whole u v) (record { at = gap.at; off = gap.off }) (d ++ (x ∷ []))
+  stands-new {x = x} {made = made} {new = new} {d = d} gap a may z =
       subst (λ (y : Store). At y (record { at = gap.at; off = gap.off }) (d ++ (x ∷ []))) (sym (trim_whole u v z.spells.lawful))
-      (at_inserted (trim u) v r.resized.roomy.lawful gap.at gap.off kind m t c d x may.vacant.last
+      (at_inserted (trim u) v r.resized.roomy.lawful gap.at gap.off made new d x may.vacant.last
       (a.offset ∙ ap (λ (ws : List ℕ). name_total (take gap.at ws)) (sym recs)) may.vacant.gap.within z)
-
--- ---- by another way to say the time
-
-pub may_at : {x : Name} {gap : Gap} {st : Store} {s : State} {d : Path} (kind m : ℕ) (c : Bytes) {t u : Time} → t ≡ u → MayMake x gap (λ p. insertion kind p m t c) st s d
-    → MayMake x gap (λ p. insertion kind p m u c) st s d
-may_at {x = x} {gap = gap} {st = st} {s = s} {d = d} kind m c e f = subst (λ (y : Time). MayMake x gap (λ p. insertion kind p m y c) st s d) e f
-
-pub makes_at : (x : Name) (gap : Gap) (spot : Spot) (st v : Store) (kind m : ℕ) (c : Bytes) {t u : Time} → t ≡ u → Makes x gap (λ p. insertion kind p m t c) spot st v
-    → Makes x gap (λ p. insertion kind p m u c) spot st v
-makes_at x gap spot st v kind m c e f = subst (λ (y : Time). Makes x gap (λ p. insertion kind p m y c) spot st v) e f

@@ -10,9 +10,8 @@ use lib.Dec.{T}
 use lib.ListN.{length, take, drop, get_or, length-append, length-take, take-append-drop}
 use lib.Seq.{length-take-le, take-length, take-take, take-append-add, get_or-append_seam}
 use Rattle.path.specs.Path.{Name}
-use Rattle.model.specs.Tree.{Path, Time, look}
+use Rattle.model.specs.Tree.{Path, look}
 use Rattle.model.specs.Prog as prog
-use Rattle.model.specs.Operations.Steps.{fresh}
 use Rattle.model.specs.Calls.States.{State, nested}
 use Rattle.model.specs.Rules.{name_ok}
 use Rattle.model.proofs.Space.After.{after-nest}
@@ -33,9 +32,11 @@ use Rattle.ask_find.specs.declared.Spot.{Spot}
 use Rattle.ask_find.specs.Paths.{row_at, path_at}
 use Rattle.ask_find.specs.Spots.{At, block_end}
 use Rattle.ask_find.proofs.Records.{rows_long, total-live, parts_at, path_next, path-depth, path-look}
+use Rattle.edit_entry.specs.declared.made.Fresh.{Fresh}
+use Rattle.edit_entry.specs.Made.{fresh_meta}
 use Rattle.edit_entry.specs.Nesting as nesting
 use Rattle.store.specs.Shows.{Shows, Stands}
-use Rattle.store_edit.specs.Moves.{MayNestAt, NestLeft}
+use Rattle.store_edit.specs.Moves.{MayNestAt}
 use Rattle.store_edit.proofs.Blocks.{below_root, block_of}
 use Rattle.store_edit.proofs.Carrying.{whole, trim_whole}
 use Rattle.store_edit.proofs.Fitting.{fits-back, was_spaced}
@@ -61,18 +62,18 @@ module _ (st : Store) (s : State) (h : Shows st s) (spot : Spot) (p : Path) (a :
   next_low =
       omega (arith, next_offset, total-live (trim st) l (suc i) (omega (arith, a.within)), total-take (live (trim st)) (suc i), l.space, l.byte_limit.1)
 
-  module _ (x : Name) (m : ℕ) (t : Time) (n : MayNestAt x m t s p) where
-    used : Uses was (nested p x (fresh m t) was) 1 0 (length x) 0
-    used = after-nest was (was_spaced st s h) p x (fresh m t) _ (ap (look was.tree) (sym a.path) ∙ path-look (trim st) l i a.within)
+  module _ (x : Name) (new : Fresh) (n : MayNestAt x new s p) where
+    used : Uses was (nested p x (fresh_meta new) was) 1 0 (length x) 0
+    used = after-nest was (was_spaced st s h) p x (fresh_meta new) _ (ap (look was.tree) (sym a.path) ∙ path-look (trim st) l i a.within)
 
     -- one entry more, and its name
     pub nest-more : count st < most st
     nest-more =
-        omega (arith, (fits-back st s h (prog.take p ∷ prog.make p (fresh m t) ∷ prog.give (p ++ (x ∷ [])) ∷ []) n.fits).0, used.entries, entries-used (trim st) l)
+        omega (arith, (fits-back st s h (prog.take p ∷ prog.make p (fresh_meta new) ∷ prog.give (p ++ (x ∷ [])) ∷ []) n.fits).0, used.entries, entries-used (trim st) l)
 
     nest-fits : name_total (live (trim st)) + length x + total (trim st).heads ≤ room st
     nest-fits =
-        omega (arith, (fits-back st s h (prog.take p ∷ prog.make p (fresh m t) ∷ prog.give (p ++ (x ∷ [])) ∷ []) n.fits).1, used.bytes, bytes-used (trim st) l)
+        omega (arith, (fits-back st s h (prog.take p ∷ prog.make p (fresh_meta new) ∷ prog.give (p ++ (x ∷ [])) ∷ []) n.fits).1, used.bytes, bytes-used (trim st) l)
 
     pub may-nest : T (name_ok x) → HasFree (trim st).heads → (e : ℕ) → e ≡ block_end (trim st) i → nesting.MayNest (trim st) i e x
     may-nest ok free e z =
@@ -99,7 +100,7 @@ unfolding name_sum
 same_names [] a b e = ap (λ (x : Name). length x + 0) e
 same_names (r ∷ rs) a b e = ap (λ (k : ℕ). length r.name + k) (same_names rs a b e)
 
-module _ (st v : Store) (l : Lawful st) (i : ℕ) (h : i < count st) (x : Name) (p : Path) (m : ℕ) (t : Time) (n : nesting.NestedAt st v i x p m t) where
+module _ (st v : Store) (l : Lawful st) (i : ℕ) (h : i < count st) (x : Name) (p : Path) (new : Fresh) (n : nesting.NestedAt st v i x p new) where
   abbrev front : List Row
   front = take i (rows_of st)
 
@@ -162,19 +163,8 @@ module _ (st v : Store) (l : Lawful st) (i : ℕ) (h : i < count st) (x : Name) 
       }
 
 -- with the words of the other slots behind those so far
-pub stands-nested : (st v : Store) (s : State) (h : Shows st s) (spot : Spot) (p : Path) (a : Stands st spot p) (x : Name) (m : ℕ) (t : Time) (n : nesting.NestedAt (trim st) v spot.at x p m t)
+pub stands-nested : (st v : Store) (s : State) (h : Shows st s) (spot : Spot) (p : Path) (a : Stands st spot p) (x : Name) (new : Fresh) (n : nesting.NestedAt (trim st) v spot.at x p new)
     → (r : Spot) → r.at ≡ suc spot.at → r.off ≡ spot.off + nlen_of (get_or st.records spot.at 0) → Stands (whole st v) r (p ++ (x ∷ []))
-stands-nested st v s h spot p a x m t n r e f =
+stands-nested st v s h spot p a x new n r e f =
     subst (λ (u : Store). At u r (p ++ (x ∷ []))) (sym (trim_whole st v n.spells.lawful))
-    (nested_at (trim st) v h.roomy.lawful spot.at a.within x p m t n r e (f ∙ sym (next_offset st s h spot p a)) a.path)
-
--- ---- a time that was passed on is the time that was given
-
-pub same_time : {st v : Store} {i m : ℕ} {x : Name} {p : Path} {t w : Time} → t ≡ w → nesting.NestedAt st v i x p m t → nesting.NestedAt st v i x p m w
-same_time {st = st} {v = v} {i = i} {m = m} {x = x} {p = p} e n = subst (λ (t : Time). nesting.NestedAt st v i x p m t) e n
-
-pub may-time : {s : State} {m : ℕ} {x : Name} {p : Path} {t w : Time} → t ≡ w → MayNestAt x m t s p → MayNestAt x m w s p
-may-time {s = s} {m = m} {x = x} {p = p} e n = subst (λ (t : Time). MayNestAt x m t s p) e n
-
-pub left_time : {u : Store} {s : State} {r : Spot} {m : ℕ} {x : Name} {p : Path} {t w : Time} → t ≡ w → NestLeft x m t r u s p → NestLeft x m w r u s p
-left_time {u = u} {s = s} {r = r} {m = m} {x = x} {p = p} e n = subst (λ (t : Time). NestLeft x m t r u s p) e n
+    (nested_at (trim st) v h.roomy.lawful spot.at a.within x p new n r e (f ∙ sym (next_offset st s h spot p a)) a.path)

@@ -4,11 +4,11 @@
 use mathlib.Core.List.{[], ◌∷◌}
 use mathlib.Core.Option.{none}
 use mathlib.Core.Path.{◌≡◌, refl, sym, ap, ◌∙◌, subst}
-use Prim.Native.Nat.{ℕ, ◌≤◌, ◌<◌}
+use Prim.Native.Nat.{◌≤◌, ◌<◌}
 use native.Mathlib.Decide.{ℕ_discrete}
 use native.Mathlib.Omega.{arith}
 use lib.ListN.{length}
-use Rattle.model.specs.Tree.{Meta, Time, Entries, same_path, look, put}
+use Rattle.model.specs.Tree.{Meta, Entries, same_path, look, put}
 use Rattle.model.specs.Prog.{on_some, make, apply}
 use Rattle.model.specs.Alike.{Alike}
 use Rattle.model.specs.Calls.States.{State, edited}
@@ -21,7 +21,8 @@ use Rattle.layout.specs.Lawful.{Lawful}
 use Rattle.layout.proofs.Used.{entries-used}
 use Rattle.ask_find.specs.Spots.{At}
 use Rattle.ask_find.proofs.Records.{path-look}
-use Rattle.edit_entry.specs.Growth.{new_meta}
+use Rattle.edit_entry.specs.declared.made.Fresh.{Fresh}
+use Rattle.edit_entry.specs.Made.{fresh_meta}
 use Rattle.edit_entry.specs.Insertion as insertion
 use Rattle.edit_room.specs.Extents.{trim, Reserved}
 use Rattle.store.specs.Shows.{Shows, Stands}
@@ -66,13 +67,9 @@ has_root v a m l h = go (ℕ_discrete (count v) 0)
         let z : (state v).tree ≡ [] = none_there (state v).tree (entries-used v l ∙ e) in
         clash (shown (state v) []) (shown_dir m) (ap (λ (t : Entries). on_some (look t []) (shown_node (state v))) z) (h.entries [])
 
-pub stands-root : {u v : Store} {s : State} → Shows u s → (m : ℕ) (t : Time) → insertion.Rooted (trim u) v m t → Stands (whole u v) (record { at = 0; off = 0 }) []
+pub stands-root : {u v : Store} {s : State} → Shows u s → (new : Fresh) → insertion.Rooted (trim u) v new → Stands (whole u v) (record { at = 0; off = 0 }) []
 unfolding name_total
-stands-root {u = u} {v = v} h m t k =
-    let low = has_root v (state (trim u)) (new_meta m t) k.lawful k.alike in
+stands-root {u = u} {v = v} h new k =
+    let low = has_root v (state (trim u)) (fresh_meta new) k.lawful k.alike in
     subst (λ (y : Store). At y (record { at = 0; off = 0 }) []) (sym (trim_whole u v k.lawful))
     (record { within = low; offset = refl; path = first_path v k.lawful low })
-
--- a time that was passed on is the time that was given
-pub same_rooted : {u v : Store} {s : State} → Shows u s → (m : ℕ) {t y : Time} → t ≡ y → insertion.Rooted (trim u) v m t → insertion.Rooted (trim u) v m y
-same_rooted {u = u} {v = v} h m e z = subst (λ (x : Time). insertion.Rooted (trim u) v m x) e z

@@ -1,13 +1,14 @@
 -- What it asks to move an entry with all below it, or to put it below a new directory in its place, and what a store shows then.
 -- Assumes nothing.
-use Rattle.std.specs.Prelude.{[], ◌∷◌, ◌++◌, ◌≡◌, ℕ}
+use Rattle.std.specs.Prelude.{[], ◌∷◌, ◌++◌, ◌≡◌}
 use Rattle.std.proofs.Math.Option.{none}
 use Rattle.path.specs.Path.{Name}
-use Rattle.model.specs.Tree.{Path, Time, behind}
-use Rattle.model.specs.Operations.Steps.{fresh}
+use Rattle.model.specs.Tree.{Path, behind}
 use Rattle.model.specs.Calls.States.{State, moved, nested}
 use Rattle.layout.specs.Store.{Store}
 use Rattle.slots.specs.Free.{HasFree}
+use Rattle.edit_entry.specs.declared.made.Fresh.{Fresh}
+use Rattle.edit_entry.specs.Made.{fresh_meta}
 use Rattle.edit_room.specs.Extents.{trim}
 use Rattle.ask_find.specs.declared.Spot.{Spot}
 use Rattle.ask_find.specs.declared.Gap.{Gap}
@@ -35,23 +36,23 @@ Moves spot gap y st u =
 -- ---- an entry below a new directory
 
 -- the entry is not the root, and the state fits with a new directory in its place and the entry x in that
-pub record MayNestAt (x : Name) (m : ℕ) (t : Time) (s : State) (p : Path) : Type 0 where
+pub record MayNestAt (x : Name) (new : Fresh) (s : State) (p : Path) : Type 0 where
   pub below : Below s p
-  pub fits : Fits (nested p x (fresh m t) s)
+  pub fits : Fits (nested p x (fresh_meta new) s)
 
 -- what is left, and the spot of the entry at its new place
-pub record NestLeft (x : Name) (m : ℕ) (t : Time) (r : Spot) (u : Store) (s : State) (p : Path) : Type 0 where
-  pub shows : Shows u (nested p x (fresh m t) s)
+pub record NestLeft (x : Name) (new : Fresh) (r : Spot) (u : Store) (s : State) (p : Path) : Type 0 where
+  pub shows : Shows u (nested p x (fresh_meta new) s)
   pub at : Stands u r (p ++ (x ∷ []))
 
 -- of every state, and of the path of the entry
-abbrev pub Nests : Spot → Name → ℕ → Time → Spot → Store → Store → Type 0
-Nests spot x m t r st u = (s : State) (p : Path) → Shows st s → Stands st spot p → MayNestAt x m t s p → NestLeft x m t r u s p
+abbrev pub Nests : Spot → Name → Fresh → Spot → Store → Store → Type 0
+Nests spot x new r st u = (s : State) (p : Path) → Shows st s → Stands st spot p → MayNestAt x new s p → NestLeft x new r u s p
 
 -- the same of a store that has a free slot
-abbrev pub NestsFree : Spot → Name → ℕ → Time → Spot → Store → Store → Type 0
-NestsFree spot x m t r st u = HasFree (trim st).heads → Nests spot x m t r st u
+abbrev pub NestsFree : Spot → Name → Fresh → Spot → Store → Store → Type 0
+NestsFree spot x new r st u = HasFree (trim st).heads → Nests spot x new r st u
 
 -- some such store that has the slices shows a state, and the entry at the spot may be put below a new directory
-abbrev pub SomeFree : (Store → Store) → Spot → Name → ℕ → Time → Type 0
-SomeFree has spot x m t = SomeState has (λ st s. (p : Path) × Stands st spot p × MayNestAt x m t s p × HasFree (trim st).heads)
+abbrev pub SomeFree : (Store → Store) → Spot → Name → Fresh → Type 0
+SomeFree has spot x new = SomeState has (λ st s. (p : Path) × Stands st spot p × MayNestAt x new s p × HasFree (trim st).heads)

@@ -1,12 +1,15 @@
 // An entry is moved, with all below it, or put below a new directory in its place.
 ghost use Rattle.std.specs.Prelude.{T};
 ghost use Rattle.model.specs.Rules.{name_ok};
-ghost use Rattle.layout.specs.Lent.{◌∘◌, with_words, with_records, with_heads, with_times, with_bytes, still};
-ghost use Rattle.layout.specs.Lent.{◌&◌, on_words, on_records, on_heads, on_times, on_bytes, On};
+ghost use Rattle.layout.specs.Lent.{◌∘◌, with_words, with_records, with_heads, with_bytes, still};
+ghost use Rattle.layout.specs.Lent.{◌&◌, on_records, on_heads, on_bytes, On};
+ghost use Rattle.edit_entry.specs.Lent.{with_entries, on_entries};
 ghost use Rattle.store_edit.specs.Turns.{SomeSpot};
 ghost use Rattle.store_edit.specs.Moves.{SomeMove, Moves, MayNestAt, Nests, SomeFree, NestsFree};
 
 use ask_find::{Gap, Spot, block_end};
+use edit_entry::lent::Entries;
+use edit_entry::made::Fresh;
 use layout::{COUNT_AT, EXTENT_AT, nlen_of};
 
 // The entry at the spot, with all below it, becomes the entry `name` at the gap, which was found with the entry itself counted as out.
@@ -27,63 +30,49 @@ pub fn move_to(
 }
 
 // The entry at the spot becomes the entry `name` of a new directory, which has its old place and name. One of the slots so far is free.
-fn nest_free(
-    words: &mut [u64],
-    records: &mut [u64],
-    heads: &mut [u64],
-    times: &mut [i64],
-    bytes: &mut [u8],
-    spot: Spot,
-    name: &[u8],
-    mode: u32,
-    t: i64,
-) -> Spot
-    requires { SomeFree (with_words words.old ∘ with_records records.old ∘ with_heads heads.old ∘ with_times times.old
-        ∘ with_bytes bytes.old) spot name.now mode t
-        × T (name_ok name.now) }
-    ensures { On (on_words words.old words.new & on_records records.old records.new & on_heads heads.old heads.new & on_times times.old times.new
-        & on_bytes bytes.old bytes.new)
-        (NestsFree spot name.now mode t result) }
+fn nest_free(l: Entries, heads: &mut [u64], spot: Spot, name: &[u8], new: Fresh) -> Spot
+    requires { SomeFree (with_entries l ∘ with_heads heads.old) spot name.now new × T (name_ok name.now) }
+    ensures { On (on_entries l.entry l.exit & on_heads heads.old heads.new) (NestsFree spot name.now new result) }
 {
+    let Entries {
+        words,
+        records,
+        times,
+        bytes,
+    } = l;
     let i = spot.at;
     let off = spot.off + nlen_of(records[i]);
     let end = block_end(records, words[COUNT_AT] as usize, i);
     let slots = words[EXTENT_AT] as usize;
-    edit_entry::nesting::nest_entry(
+    let lent = Entries {
         words,
         records,
-        &mut heads[..slots],
         times,
         bytes,
-        i,
-        end,
-        name,
-        mode,
-        t,
-    );
+    };
+    edit_entry::nesting::nest_entry(lent, &mut heads[..slots], i, end, name, new);
     Spot { at: i + 1, off }
 }
 
 // The same in any store. The answer is the entry at its new place.
-pub fn nest(
-    words: &mut [u64],
-    records: &mut [u64],
-    heads: &mut [u64],
-    times: &mut [i64],
-    bytes: &mut [u8],
-    spot: Spot,
-    name: &[u8],
-    mode: u32,
-    t: i64,
-) -> Spot
-    requires { SomeSpot (with_words words.old ∘ with_records records.old ∘ with_heads heads.old ∘ with_times times.old ∘ with_bytes bytes.old) spot
-        (MayNestAt name.now mode t) × T (name_ok name.now) }
-    ensures { On (on_words words.old words.new & on_records records.old records.new & on_heads heads.old heads.new & on_times times.old times.new
-        & on_bytes bytes.old bytes.new)
-        (Nests spot name.now mode t result) }
+pub fn nest(l: Entries, heads: &mut [u64], spot: Spot, name: &[u8], new: Fresh) -> Spot
+    requires { SomeSpot (with_entries l ∘ with_heads heads.old) spot (MayNestAt name.now new) × T (name_ok name.now) }
+    ensures { On (on_entries l.entry l.exit & on_heads heads.old heads.new) (Nests spot name.now new result) }
 {
+    let Entries {
+        words,
+        records,
+        times,
+        bytes,
+    } = l;
     edit_room::reserve(words, heads);
-    let r = nest_free(words, records, heads, times, bytes, spot, name, mode, t);
+    let lent = Entries {
+        words,
+        records,
+        times,
+        bytes,
+    };
+    let r = nest_free(lent, heads, spot, name, new);
     edit_room::release(words, heads);
     r
 }

@@ -1,6 +1,7 @@
 #![tactic(auto)]
 // Only for timing: an edit made many times in one store, for a C program. The store is tested once, since each edit leaves a store
 // that obeys the rules.
+use edit_entry::made::{Fresh, Made};
 use layout::EXTENT_AT;
 use test_tried::asked::ready;
 use test_tried::entry::{insert_in, remove_in};
@@ -34,7 +35,16 @@ pub extern "C" fn timed_place(
         if spot.at == 0 {
             return at / 10;
         }
-        if !insertable(words, records, used, times, paths, bytes, name, 2, text) {
+        if !insertable(
+            words,
+            records,
+            used,
+            times,
+            paths,
+            bytes,
+            name,
+            Made::File(text),
+        ) {
             return at / 10;
         }
         at = e;
@@ -58,12 +68,14 @@ pub extern "C" fn timed_insert(
     if !ready(words, records, heads, times, paths, bytes) {
         return 0;
     }
+    let made = Made::File(text);
+    let new = Fresh { mode: 420, time: 1 };
     let mut at = 0;
     while 10 <= names.len() - at {
         let e = at + 10;
         let name = &names[at..e];
         if !insert_in(
-            words, records, heads, times, paths, bytes, dir, name, 2, 420, 1, text,
+            words, records, heads, times, paths, bytes, dir, name, made, new,
         ) {
             return at / 10;
         }

@@ -29,7 +29,6 @@ use Rattle.ask_find.specs.declared.Gap.{Gap}
 use Rattle.ask_find.specs.Paths.{path_at}
 use Rattle.ask_find.specs.Spots.{At, Room, between, instead, Vacant}
 use Rattle.ask_find.proofs.Records.{path-rises}
-use Rattle.edit_entry.specs.Insertion.{Holds}
 use Rattle.test_tried.specs.Tried.{Spotted}
 
 -- a text whose last piece is all of it has no slash
@@ -38,14 +37,6 @@ name-said s a z p t =
     let e : part a (length s) s ≡ s = ap (λ (k : ℕ). part k (length s) s) z ∙ take_all (length s - 0) s (omega arith) in
     let o : pieces s ≡ s ∷ [] = ap pieces (sym e) ∙ p.one ∙ ap (λ (x : Bytes). x ∷ []) e in
     piece-name s (subst (Every NoSlash) o (pieces_no_slash s)).0 t
-
-nothing : (s : Bytes) → length s ≡ 0 → s ≡ []
-nothing [] e = refl
-nothing (b ∷ s) e = absurd (omega arith)
-
--- a directory holds nothing
-pub holds-nothing : (kind : ℕ) (s : Bytes) → kind ≡ 1 → length s ≡ 0 → Holds kind s
-holds-nothing kind s z e = subst (λ (k : ℕ). Holds k s) (sym z) (nothing s e)
 
 -- the place of a missing entry stands behind its directory: the path before it begins with the directory's
 after-dir : (st : Store) (l : Lawful st) (i k : ℕ) (x : Name) → i < count st → 0 < k → k ≤ count st → Between (kind_at st) (take k (rows_of st)) (drop k (rows_of st)) (path_at st i) x → i < k

@@ -6,7 +6,10 @@ ghost use Rattle.slots.specs.Free.{HasFree};
 ghost use Rattle.edit_room.specs.Extents.{Roomy};
 
 use crate::asked::ready;
-use crate::place::{insertable, spot_for};
+use crate::place::{insertable, made_of, spot_for};
+use edit_entry::insert::{insert_entry, insert_root};
+use edit_entry::lent::Entries;
+use edit_entry::made::{Fresh, Made};
 use layout::{COUNT_AT, EXTENT_AT};
 
 pub fn try_root(
@@ -27,7 +30,13 @@ pub fn try_root(
     }
     edit_room::reserve(words, heads);
     let slots = words[EXTENT_AT] as usize;
-    edit_entry::insert::insert_root(words, records, &mut heads[..slots], times, bytes, mode, t);
+    let lent = Entries {
+        words,
+        records,
+        times,
+        bytes,
+    };
+    insert_root(lent, &mut heads[..slots], Fresh { mode, time: t });
     edit_room::release(words, heads);
     true
 }
@@ -42,10 +51,8 @@ fn insert_exact(
     bytes: &mut [u8],
     dir: usize,
     name: &[u8],
-    kind: u64,
-    mode: u32,
-    t: i64,
-    text: &[u8],
+    made: Made,
+    new: Fresh,
 ) -> bool
     requires { Lawful
         (lends words.old records.old heads.old times.old paths.now bytes.old) × (get_or words.old 2 0 < get_or words.old 0 0 → HasFree heads.old) }
@@ -56,13 +63,17 @@ fn insert_exact(
     if at == 0 {
         return false;
     }
-    if !insertable(words, records, heads, times, paths, bytes, name, kind, text) {
+    if !insertable(words, records, heads, times, paths, bytes, name, made) {
         return false;
     }
     let depth = spot.depth;
-    edit_entry::insert::insert_entry(
-        words, records, heads, times, bytes, at, depth, name, kind, mode, t, text,
-    );
+    let lent = Entries {
+        words,
+        records,
+        times,
+        bytes,
+    };
+    insert_entry(lent, heads, at, depth, name, made, new);
     true
 }
 
@@ -76,17 +87,15 @@ pub fn insert_in(
     bytes: &mut [u8],
     dir: usize,
     name: &[u8],
-    kind: u64,
-    mode: u32,
-    t: i64,
-    text: &[u8],
+    made: Made,
+    new: Fresh,
 ) -> bool
     requires { Roomy (lends words.old records.old heads.old times.old paths.now bytes.old) }
     ensures { Roomy (lends words.new records.new heads.new times.new paths.now bytes.new) }
 {
     edit_room::reserve(words, heads);
     let slots = words[EXTENT_AT] as usize;
-    let made = insert_exact(
+    let done = insert_exact(
         words,
         records,
         &mut heads[..slots],
@@ -95,13 +104,11 @@ pub fn insert_in(
         bytes,
         dir,
         name,
-        kind,
-        mode,
-        t,
-        text,
+        made,
+        new,
     );
     edit_room::release(words, heads);
-    made
+    done
 }
 
 pub fn try_insert(
@@ -121,8 +128,12 @@ pub fn try_insert(
     if !ready(words, records, heads, times, paths, bytes) {
         return false;
     }
+    let Some(made) = made_of(kind, text) else {
+        return false;
+    };
+    let new = Fresh { mode, time: t };
     insert_in(
-        words, records, heads, times, paths, bytes, dir, name, kind, mode, t, text,
+        words, records, heads, times, paths, bytes, dir, name, made, new,
     )
 }
 

@@ -1,15 +1,17 @@
 // What an insertion asks.
-ghost use Rattle.std.specs.Prelude.{true, ◌≡◌, ◌<◌, ◌≤◌, T, length};
+ghost use Rattle.std.specs.Prelude.{IfSome, true, ◌≡◌, ◌<◌, ◌≤◌, T, length};
 ghost use Rattle.model.specs.Tree.{Path};
 ghost use Rattle.model.specs.Rules.{name_ok};
 ghost use Rattle.layout.specs.Store.{count, kind_at};
 ghost use Rattle.layout.specs.Lent.{lends};
 ghost use Rattle.layout.specs.Lawful.{Lawful};
 ghost use Rattle.ask_find.specs.Paths.{slot_at};
-ghost use Rattle.edit_entry.specs.Insertion.{Vacancy, Holds, Insertable};
+ghost use Rattle.edit_entry.specs.Made.{bytes_made, Holds};
+ghost use Rattle.edit_entry.specs.Insertion.{Vacancy, Insertable};
 ghost use Rattle.test_tried.specs.Tried.{Spotted};
 
 use ask_find::{Gap, Spot};
+use edit_entry::made::Made;
 use layout::{COUNT_AT, MOST_BYTES};
 
 const MOST: usize = MOST_BYTES as usize;
@@ -104,20 +106,26 @@ pub fn spot_for(
     spot_in(words, records, heads, times, paths, bytes, dir, name)
 }
 
-// Whether an entry of that kind may hold the bytes.
-fn may_hold(kind: u64, text: &[u8]) -> bool
-    ensures { result ≡ true → Holds kind text.now }
+// What an entry of that kind with those bytes is: 1 is a directory, which has none, 2 a file, 3 a link.
+pub fn made_of(kind: u64, text: &[u8]) -> Option<Made<'_>>
+    ensures { IfSome result (λ m. bytes_made m ≡ text.now) }
 {
-    if kind == 1 {
-        return text.len() == 0;
+    match kind {
+        1 if text.is_empty() => Some(Made::Directory),
+        2 => Some(Made::File(text)),
+        3 => Some(Made::Link(text)),
+        _ => None,
     }
-    if kind == 2 {
-        return true;
+}
+
+// Whether it may hold its bytes.
+fn may_hold(made: Made) -> bool
+    ensures { result ≡ true → Holds made.entry }
+{
+    match made {
+        Made::Link(target) => lawful::held::target_ok(target),
+        _ => true,
     }
-    if kind != 3 {
-        return false;
-    }
-    lawful::held::target_ok(text)
 }
 
 // Whether the limits leave room for the entry.
@@ -129,19 +137,19 @@ pub fn insertable(
     paths: &[u8],
     bytes: &[u8],
     name: &[u8],
-    kind: u64,
-    text: &[u8],
+    made: Made,
 ) -> bool
     requires { Lawful (lends words.now records.now heads.now times.now paths.now bytes.now) × (length name.now ≤ 255) }
-    ensures { result ≡ true → Insertable (lends words.now records.now heads.now times.now paths.now bytes.now) name.now kind text.now }
+    ensures { result ≡ true → Insertable (lends words.now records.now heads.now times.now paths.now bytes.now) name.now made.entry }
 {
     if records.len() <= words[COUNT_AT] as usize {
         return false;
     }
+    let text = made.bytes();
     if MOST < text.len() {
         return false;
     }
-    if !may_hold(kind, text) {
+    if !may_hold(made) {
         return false;
     }
     crate::asked::room_for(

@@ -1,18 +1,14 @@
--- `fill::fill_slot` meets its contract. Assumes nothing.
-use mathlib.Core.Path.{◌∙◌, ap}
-use mir.Syntax.{w64}
-use mir.ValLaws.{to_z-of_z}
-use lib.IntN.{ℤ}
-use Rattle.slots.specs.Times.{times_set}
-use lib.ListN.{length, length-set}
+-- `fill_slot` meets its contract. Assumes nothing.
+use mathlib.Core.Path.{◌≡◌, ◌∙◌}
+use Rattle.std.proofs.Common.{rules, w64, to_z, of_z}
+use lib.ListN.{length-set}
 use Rattle.edit_entry.proofs.Fills.{may_write, filled}
 use Rattle.edit_entry.proofs.fill.fill_slot.Goals as goal
 
 pub write-requires : goal.write-requires
 write-requires c =
     let a = c.requires in
-    let g = c.args in
-    may_write g.heads.now g.s g.kind g.mode _ c.head_word.ensures a.2 a.0 g.bytes.now (length g.text.now) a.5 a.6
+    rw c.bytes.ensures (may_write _ _ c.args.made c.args.new _ (cc) a.2 a.0 _ a.4 a.5)
 
 pub shape_of-heads : goal.shape_of-heads
 shape_of-heads c = c.write.auto.heads ∙ length-set c.args.heads.now _ _
@@ -21,5 +17,6 @@ pub returns : goal.returns
 returns c =
     let a = c.requires in
     let g = c.args in
-    filled g.heads.now g.s g.kind g.mode _ c.head_word.ensures a.2 a.0 g.times.now g.bytes.now _ _ _ g.t g.text.now
-    (c.put_times.ensures ∙ ap (λ (v : ℤ). times_set g.times.now g.s v v) (to_z-of_z w64 g.t c.ranges.t)) c.write.ensures
+    let p = rw c.bytes.ensures at c.write.ensures in
+    let t : to_z w64 (of_z w64 g.new.time) ≡ g.new.time = search rules in
+    filled _ _ g.made g.new _ (cc) a.2 a.0 _ _ _ _ _ (rw t at c.put_times.ensures) p

@@ -2,65 +2,56 @@
 -- Assumes nothing.
 use mathlib.Core.List.{[], ◌∷◌}
 use mathlib.Core.Path.{sym}
+use native.Mathlib.Omega.{arith}
 use lib.Seq.{length-take-le}
-use mir.Syntax.{w64}
-use mir.ValLaws.{to_z-of_z}
 use Rattle.model.specs.Prog.{make}
-use Rattle.model.specs.Operations.Steps.{fresh}
-use Rattle.layout.specs.Lent.{◌∘◌, with_words, with_records, with_heads, with_times, with_bytes}
+use Rattle.layout.specs.Lent.{◌∘◌, with_heads}
+use Rattle.edit_entry.specs.Lent.{with_entries}
+use Rattle.edit_entry.specs.Made.{fresh_meta}
 use Rattle.edit_room.proofs.Parting.{part_within}
 use Rattle.store_edit.proofs.Carrying.{shows_whole, shows-resized, shows-released, roomy_of}
 use Rattle.store_edit.proofs.Resizing.{stands-released}
-use Rattle.store_edit.proofs.Rooting.{root-may, stands-root, same_rooted}
+use Rattle.store_edit.proofs.Rooting.{root-may, stands-root}
 use Rattle.store_edit.proofs.entry.make_root.Goals as goal
 
 pub reserve-requires : goal.reserve-requires
 reserve-requires c = roomy_of c.requires.2.roomy
 
 pub slice_bounds-insert_root-end : goal.slice_bounds-insert_root-end
-slice_bounds-insert_root-end c =
-    let q = c.requires in
-    let g = c.args in
-    let u = (with_words g.words.now ∘ with_records g.records.now ∘ with_heads g.heads.now ∘ with_times g.times.now ∘ with_bytes g.bytes.now) q.0 in
-    part_within _ (c.reserve.ensures u q.2.roomy).resized.roomy
+slice_bounds-insert_root-end c = let q = c.requires in part_within _ (c.reserve.ensures ((with_entries c.args.l ∘ with_heads c.args.heads.now) q.0) q.2.roomy).resized.roomy
 
 pub slice_bounds-insert_root-end-2 : goal.slice_bounds-insert_root-end-2
 slice_bounds-insert_root-end-2 c =
     let q = c.requires in
-    let g = c.args in
-    let u = (with_words g.words.now ∘ with_records g.records.now ∘ with_heads g.heads.now ∘ with_times g.times.now ∘ with_bytes g.bytes.now) q.0 in
-    sym (length-take-le _ _ (part_within _ (c.reserve.ensures u q.2.roomy).resized.roomy))
+    sym (length-take-le _ _ (part_within _ (c.reserve.ensures ((with_entries c.args.l ∘ with_heads c.args.heads.now) q.0) q.2.roomy).resized.roomy))
 
 pub insert_root-requires : goal.insert_root-requires
 insert_root-requires c =
     let q = c.requires in
-    let g = c.args in
-    let u = (with_words g.words.now ∘ with_records g.records.now ∘ with_heads g.heads.now ∘ with_times g.times.now ∘ with_bytes g.bytes.now) q.0 in
+    let u = (with_entries c.args.l ∘ with_heads c.args.heads.now) q.0 in
     let r = c.reserve.ensures u q.2.roomy in
-    (u, r.resized.roomy.lawful, root-may q.2 r (fresh g.mode g.t) q.3)
+    (u, r.resized.roomy.lawful, root-may q.2 r (fresh_meta c.args.new) q.3)
 
 pub release-requires : goal.release-requires
 release-requires c =
     let q = c.requires in
     let g = c.args in
-    let u = (with_words g.words.now ∘ with_records g.records.now ∘ with_heads g.heads.now ∘ with_times g.times.now ∘ with_bytes g.bytes.now) q.0 in
+    let u = (with_entries g.l ∘ with_heads g.heads.now) q.0 in
     let r = c.reserve.ensures u q.2.roomy in
-    let w = shows-resized q.2 r.resized in
     let x = c.insert_root in
-    let z = same_rooted w g.mode (to_z-of_z w64 g.t c.ranges.t) (x.ensures u r.resized.roomy.lawful) in
-    roomy_of (shows_whole (make [] (fresh g.mode g.t) ∷ []) _ _ _ w z x.auto.heads x.auto.records).roomy
+    roomy_of (shows_whole (make [] (fresh_meta g.new) ∷ []) _ _ _ (shows-resized q.2 r.resized) (x.ensures u r.resized.roomy.lawful) x.auto.heads (omega arith)).roomy
 
 pub returns : goal.returns
 returns c =
     λ st s h f.
     let g = c.args in
-    let u = (with_words g.words.now ∘ with_records g.records.now ∘ with_heads g.heads.now ∘ with_times g.times.now ∘ with_bytes g.bytes.now) st in
+    let u = (with_entries g.l ∘ with_heads g.heads.now) st in
     let r = c.reserve.ensures u h.roomy in
     let w = shows-resized h r.resized in
     let x = c.insert_root in
-    let z = same_rooted w g.mode (to_z-of_z w64 g.t c.ranges.t) (x.ensures u r.resized.roomy.lawful) in
-    let k = shows_whole (make [] (fresh g.mode g.t) ∷ []) _ _ _ w z x.auto.heads x.auto.records in
+    let z = x.ensures u r.resized.roomy.lawful in
+    let k = shows_whole (make [] (fresh_meta g.new) ∷ []) _ _ _ w z x.auto.heads (omega arith) in
     record {
       shows = shows-released k c.release.ensures;
-      stands = stands-released k.roomy c.release.ensures _ _ (stands-root w g.mode g.t z);
+      stands = stands-released k.roomy c.release.ensures _ _ (stands-root w g.new z);
     }

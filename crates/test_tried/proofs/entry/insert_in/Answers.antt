@@ -17,14 +17,14 @@ slice_bounds-insert_exact-end c = part_within _ (c.reserve.ensures (lent c.args.
 pub slice_bounds-insert_exact-end-2 : goal.slice_bounds-insert_exact-end-2
 slice_bounds-insert_exact-end-2 c = sym (length-take-le _ _ (part_within _ (c.reserve.ensures (lent c.args.words.now c.args.records.now c.args.heads.now c.args.times.now c.args.paths.now c.args.bytes.now) c.requires).resized.roomy))
 
-pub insert_exact-made-requires : goal.insert_exact-made-requires
-insert_exact-made-requires c = let v = c.reserve.ensures (lent c.args.words.now c.args.records.now c.args.heads.now c.args.times.now c.args.paths.now c.args.bytes.now) c.requires in (v.resized.roomy.lawful, λ h. v.free (omega (arith, h, v.resized.words 2 (λ e. omega arith), v.resized.words 0 (λ e. omega arith))))
+pub insert_exact-done-requires : goal.insert_exact-done-requires
+insert_exact-done-requires c = let v = c.reserve.ensures (lent c.args.words.now c.args.records.now c.args.heads.now c.args.times.now c.args.paths.now c.args.bytes.now) c.requires in (v.resized.roomy.lawful, λ h. v.free (omega (arith, h, v.resized.words 2 (λ e. omega arith), v.resized.words 0 (λ e. omega arith))))
 
 pub release-requires : goal.release-requires
 release-requires c =
     let a = c.args in
     let v = c.reserve.ensures (lent c.args.words.now c.args.records.now c.args.heads.now c.args.times.now c.args.paths.now c.args.bytes.now) c.requires in
-    let x = c.insert_exact-made in
+    let x = c.insert_exact-done in
     let u = lent [] x.new.records [] x.new.times a.paths.now x.new.bytes in
     (u, (part-back _ _ _ _ _ _ _ _ _ _ _ _ _ v.resized.roomy refl x.auto.heads x.auto.records x.ensures))
 
@@ -32,6 +32,6 @@ pub returns : goal.returns
 returns c =
     let a = c.args in
     let v = c.reserve.ensures (lent c.args.words.now c.args.records.now c.args.heads.now c.args.times.now c.args.paths.now c.args.bytes.now) c.requires in
-    let x = c.insert_exact-made in
+    let x = c.insert_exact-done in
     let u = lent [] x.new.records [] x.new.times a.paths.now x.new.bytes in
     (c.release.ensures u (part-back _ _ _ _ _ _ _ _ _ _ _ _ _ v.resized.roomy refl x.auto.heads x.auto.records x.ensures)).resized.roomy

@@ -35,5 +35,5 @@ release-requires c =
     let a = c.args in
     let v = c.reserve.ensures (lent c.args.words.now c.args.records.now c.args.heads.now c.args.times.now c.args.paths.now c.args.bytes.now) (c.ready.ensures (not-false c.ready.result c.if-not-ready.false-raw)) in
     let x = c.insert_root in
-    let u = lent [] x.new.records [] x.new.times a.paths.now x.new.bytes in
-    (u, part-back _ _ _ _ _ _ _ _ _ _ _ _ _ v.resized.roomy refl x.auto.heads x.auto.records (x.ensures (lent [] [] [] [] a.paths.now []) v.resized.roomy.lawful).lawful)
+    let u = lent [] x.new.l.1.0 [] x.new.l.1.1.0 a.paths.now x.new.l.1.1.1.0 in
+    (u, part-back _ _ _ _ _ _ _ _ _ _ _ _ _ v.resized.roomy refl x.auto.heads (omega arith) (x.ensures (lent [] [] [] [] a.paths.now []) v.resized.roomy.lawful).lawful)

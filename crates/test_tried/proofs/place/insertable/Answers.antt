@@ -1,7 +1,9 @@
 -- `insertable` meets its contract: the limits, and what the entry holds.
 -- Assumes nothing.
 use mathlib.Core.Bool.{false≢true}
+use mathlib.Core.Path.{ap}
 use native.Mathlib.Omega.{arith}
+use lib.ListN.{length}
 use borrow.Author.Tests.{not-false}
 use Rattle.test_tried.proofs.place.insertable.Goals as goal
 
@@ -21,4 +23,4 @@ pub room_for-requires : goal.room_for-requires
 room_for-requires c = (c.requires.0, omega arith)
 
 pub returns : goal.returns
-returns c = λ h. let l = c.requires.0 in record { more = omega (arith, c.if-records-words.false, l.exact.records); fits = omega (arith, c.room_for.ensures h); holds = c.may_hold.ensures (not-false c.may_hold.result c.if-not-may_hold.false-raw) }
+returns c = λ h. let l = c.requires.0 in record { more = omega (arith, c.if-records-words.false, l.exact.records); fits = omega (arith, c.room_for.ensures h, ap length c.bytes-text.ensures); holds = c.may_hold.ensures (not-false c.may_hold.result c.if-not-may_hold.false-raw) }
