@@ -3,25 +3,28 @@
 -- Assumes nothing.
 use mathlib.Core.List.{[], ◌∷◌, ◌++◌, append-nil, append_assoc}
 use mathlib.Core.Path.{◌≡◌, refl, sym, ap, ◌∙◌}
-use Prim.Native.Nat.{ℕ, suc, ◌+◌, ◌≤◌, ◌<◌}
+use Prim.Native.Nat.{ℕ, suc, ◌+◌, ◌-◌, ◌≤◌, ◌<◌}
 use native.Mathlib.Numerals.{add-one}
 use native.Mathlib.Omega.{arith}
 use lib.ListN.{length, take, drop, set, length-append, length-drop, take-append-drop}
-use lib.Seq.{paste, take-length, length-take-le, set_split, drop-drop, length-paste, take-paste, drop-paste, take_at, drop_at}
+use lib.Seq.{length-take-le, set_split, drop-drop, take_at, drop_at}
+use borrow.Rule.Slice.PartMut.{put_mid, same_len_mid}
+use Rattle.std.proofs.lemmas.Slice.{take-put_mid, drop-put_mid}
 use Rattle.text.specs.Utf8.{Bytes}
 
 -- a name with a zero byte behind it, at index k
 abbrev pub with_name : Bytes → ℕ → Bytes → Bytes
 with_name out k x = take k out ++ x ++ (0 ∷ drop (k + length x + 1) out)
 
-pub put-zero : (out : Bytes) (k : ℕ) (x : Bytes) → k + length x < length out → set (paste out k x (length x)) (k + length x) 0 ≡ with_name out k x
+pub put-zero : (out : Bytes) (k : ℕ) (x : Bytes) → k + length x < length out → set (put_mid k (k + length x - k) out x) (k + length x) 0 ≡ with_name out k x
 put-zero out k x h =
     let n : ℕ = length x in
-    let p : Bytes = paste out k x n in
-    let first : take (k + n) p ≡ take k out ++ x = take-paste out k x n (omega (arith, h)) (omega arith) ∙ ap (λ (s : Bytes). take k out ++ s) (take-length x) in
-    let last : drop (suc (k + n)) p ≡ drop (k + n + 1) out =
-    ap (λ (m : ℕ). drop m p) (sym (add-one (k + n))) ∙ (sym (drop-drop 1 (k + n) p) ∙ (ap (drop 1) (drop-paste out k x n (omega (arith, h)) (omega arith)) ∙ drop-drop 1 (k + n) out)) in
-    set_split p (k + n) 0 (omega (arith, h, length-paste out k x n (omega (arith, h)) (omega arith))) ∙ (λ j. first j ++ (0 ∷ last j))
+    let m : ℕ = k + n - k in
+    let long : n ≡ length (take m (drop k out)) = omega (arith, length-take-le m (drop k out) (omega (arith, length-drop k out))) in
+    let first : take (k + n) (put_mid k m out x) ≡ take k out ++ x = take-put_mid k m out x (k + n) refl (omega arith) in
+    let last : drop (suc (k + n)) (put_mid k m out x) ≡ drop (k + n + 1) out =
+    drop-put_mid k m out x (suc (k + n)) (omega arith) (omega arith) (omega arith) ∙ ap (λ (i : ℕ). drop i out) (sym (add-one (k + n))) in
+    set_split (put_mid k m out x) (k + n) 0 (omega (arith, same_len_mid k m out x long)) ∙ (λ j. first j ++ (0 ∷ last j))
 
 -- out is what was before, with as much of the whole as stands before index k
 pub record Written (before whole out : Bytes) (k : ℕ) (left : Bytes) : Type 0 where

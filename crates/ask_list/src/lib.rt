@@ -72,8 +72,9 @@ fn put_name(out: &mut [u8], at: usize, name: &[u8])
     requires { at + length name.now < length out.old }
     ensures { out.new ≡ named out.old at name.now }
 {
-    blocks::copy_into(out, at, name);
-    out[at + name.len()] = 0;
+    let e = at + name.len();
+    out[at..e].copy_from_slice(name);
+    out[e] = 0;
 }
 
 // Writes the names of the entries of the directory at the spot to out, in order, with a zero byte behind each.
