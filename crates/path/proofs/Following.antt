@@ -1,7 +1,7 @@
 -- A text in which no slash is followed by a slash, by a dot or by nothing, and which does not begin so, has only names for
 -- pieces.
 -- Assumes nothing.
-use mathlib.Core.Bool.{Bool, true, false}
+use mathlib.Core.Bool.{Bool, true, false, ◌||◌}
 use mathlib.Core.List.{List, [], ◌∷◌, ◌++◌}
 use mathlib.Core.Path.{◌≡◌, refl, sym, ap, ◌∙◌, subst}
 use Prim.Native.Nat.{ℕ, zero, suc, ◌+◌, ◌-◌, ◌≤◌, ◌<◌, zero-le}
@@ -69,6 +69,10 @@ all-names s h strike = named-kept strike (pieces s) (go (pieces s) (tail 47 s h)
 
 pub never : {A : Type 0} → false ≡ true → A
 never e = let z : ◌≡◌ {A = ℕ} 0 1 = cc in absurd (omega arith)
+
+pub or-false : (a b : Bool) → a || b ≡ false → (a ≡ false) × (b ≡ false)
+or-false true b e = (e, let z : true ≡ false = e in cc)
+or-false false b e = (refl, e)
 
 clean-follows : (b : ℕ) (s : Bytes) → Clean (b ∷ s) → ((k : ℕ) → suc k ≡ length (b ∷ s) → get_or (b ∷ s) k 0 ≡ 47 → ⊥) → Follows b s
 unfolding Follows

@@ -1,11 +1,10 @@
 -- What the functions that form a path answer, and what they leave in the lent buffer.
 -- Assumes nothing.
-use Rattle.std.specs.Prelude.{Bool, true, false, cond, List, [], ◌∷◌, ◌++◌, ◌≡◌, ℕ, ◌+◌, ◌-◌, ◌≤◌, ◌<◌, leb, length, take, drop, get_or, Option, Some, None, Result, Ok, Err}
+use Rattle.std.specs.Prelude.{Bool, true, false, cond, List, [], ◌∷◌, ◌++◌, ◌≡◌, ℕ, ◌+◌, ◌-◌, ◌≤◌, ◌<◌, leb, length, take, drop, get_or, IfSome, Option, Some, None, Result, Ok, Err}
 use Rattle.text.specs.Utf8.{Bytes}
-use Rattle.path.specs.Path.{Name, pieces, normal, absolute, body, last_name}
+use Rattle.path.specs.Path.{Name, pieces, normal, absolute, last_name}
 use Rattle.path.specs.Backward.{sift, sifted, mk, front, part}
 use Rattle.path.specs.declared.answer.TooLong.{TooLong}
-use Rattle.path.specs.declared.answer.Kept.{Kept}
 use Rattle.path.specs.declared.answer.Place.{Place}
 use Rattle.path.specs.declared.answer.Place.TheVariants.{InPath, InCwd}
 
@@ -60,15 +59,7 @@ EndIs s e = (e ≤ length s) × ((strike : Bool) → sifted strike 0 s ≡ sift 
 
 -- the pieces from the first place to the second are all kept, and nothing else is, where what stands behind the text drops k names
 abbrev pub PlainIs : Option (ℕ × ℕ) → Bool → ℕ → Bytes → Type 0
-PlainIs (Some p) strike k s = (p.0 ≤ p.1) × (p.1 ≤ length s) × (sifted strike k s ≡ mk 0 (pieces (part p.0 p.1 s)))
-PlainIs None strike k s = Unit {0}
-
--- what a text keeps, where what stands behind it drops k names
-pub record KeptIs (strike : Bool) (s : Bytes) (k : ℕ) (r : Kept) : Type 0 where
-  pub skip : r.skip ≡ (sifted strike k s).skip
-  pub len : r.len ≡ length (body (sifted strike k s).kept)
-  pub few : r.skip ≤ k + length s + 1
-  pub plain : PlainIs r.plain strike k s
+PlainIs r strike k s = IfSome r (λ p. (p.0 ≤ p.1) × (p.1 ≤ length s) × (sifted strike k s ≡ mk 0 (pieces (part p.0 p.1 s))))
 
 -- Ok: the last name kept stands between these two places. Err: none is kept, and j names in front of the text are dropped
 abbrev pub LastIs : Result (ℕ × ℕ) ℕ → Bytes → ℕ → Type 0

@@ -6,9 +6,8 @@ ghost use Rattle.path.specs.Backward.{sifted};
 ghost use Rattle.path.specs.Path.{names, norm, normal, absolute, is_absolute, body};
 
 use path::answer::TooLong;
-use path::bytes::put_name;
-use path_scan::plain::find_plain;
-use path_scan::sifting::{measure, measure_back, put_back, put_kept};
+use path::lengths::LONGEST_PATH;
+use path_scan::kept::Kept;
 
 pub mod last;
 pub mod link;
@@ -20,33 +19,17 @@ pub fn is_absolute(s: &[u8]) -> bool
     matches!(s, [b'/', ..])
 }
 
-// What a path that is not plain keeps. It is measured first, since a refusal writes nothing. `strike`: whether `..` drops a name.
-fn form_mixed(out: &mut [u8], path: &[u8], strike: bool) -> Result<usize, TooLong>
-    requires { 1024 ≤ length out.old }
-    ensures { Forms (body (sifted strike 0 path.now).kept) out.old out.new result }
-{
-    let p = measure_back(path, strike, 0);
-    let kept = p.len;
-    if 1024 < kept {
-        return Err(TooLong);
-    }
-    put_back(out, kept, path, strike, 0);
-    Ok(kept)
-}
-
-// What the path keeps. A plain one is copied at once.
+// What the path keeps. It is measured first, since a refusal writes nothing. `strike`: whether `..` drops a name.
 fn form(out: &mut [u8], path: &[u8], strike: bool) -> Result<usize, TooLong>
     requires { 1024 ≤ length out.old }
     ensures { Forms (body (sifted strike 0 path.now).kept) out.old out.new result }
 {
-    if let Some((a, e)) = find_plain(path) {
-        if 1023 < e - a {
-            return Err(TooLong);
-        }
-        put_name(out, 0, &path[a..e]);
-        return Ok(e - a + 1);
+    let kept = Kept::measure(path, strike, 0);
+    if LONGEST_PATH < kept.len {
+        return Err(TooLong);
     }
-    form_mixed(out, path, strike)
+    kept.put(out, kept.len);
+    Ok(kept.len)
 }
 
 // The path behind the directory `dir`: both are read from the end, so that no longer text is ever formed on the way.
@@ -54,21 +37,17 @@ fn join(out: &mut [u8], dir: &[u8], path: &[u8]) -> Result<usize, TooLong>
     requires { 1024 ≤ length out.old }
     ensures { Forms (body (norm (normal dir.now) (names path.now))) out.old out.new result }
 {
-    let p = measure(path, true, 0);
-    let d = measure(dir, true, p.skip);
-    let last = p.len;
-    let first = d.len;
-    if 1024 < first {
+    let last = Kept::measure(path, true, 0);
+    let first = Kept::measure(dir, true, last.skip);
+    if LONGEST_PATH < first.len {
         return Err(TooLong);
     }
-    if 1024 - first < last {
+    if LONGEST_PATH - first.len < last.len {
         return Err(TooLong);
     }
-    let len = first + last;
-    let path_plain = p.plain;
-    let dir_plain = d.plain;
-    put_kept(out, len, path, true, 0, path_plain);
-    put_kept(out, first, dir, true, p.skip, dir_plain);
+    let len = first.len + last.len;
+    last.put(out, len);
+    first.put(out, first.len);
     Ok(len)
 }
 

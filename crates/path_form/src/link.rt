@@ -6,7 +6,9 @@ ghost use Rattle.path.specs.Path.{names, from, absolute, body};
 
 use crate::is_absolute;
 use path::answer::TooLong;
-use path_scan::sifting::{drop_names, measure, put_kept};
+use path::lengths::LONGEST_PATH;
+use path_scan::kept::Kept;
+use path_scan::sifting::drop_names;
 
 // How much of out[..dir], the link's directory, stays before a target that drops `skip` names: nothing before an absolute one.
 fn dir_kept(out: &[u8], dir: usize, target: &[u8], skip: usize) -> usize
@@ -34,19 +36,17 @@ pub fn follow(
     ensures { Forms (body (absolute (names (take dir out.old)) target.now) ++ part rest len out.old)
         out.old out.new result }
 {
-    let m = measure(target, true, 0);
-    let kept = m.len;
-    let first = dir_kept(out, dir, target, m.skip);
+    let kept = Kept::measure(target, true, 0);
+    let first = dir_kept(out, dir, target, kept.skip);
     let behind = len - rest;
-    if 1024 - first < kept {
+    if LONGEST_PATH - first < kept.len {
         return Err(TooLong);
     }
-    let at = first + kept;
-    if 1024 - at < behind {
+    let at = first + kept.len;
+    if LONGEST_PATH - at < behind {
         return Err(TooLong);
     }
     blocks::shift(out, rest, at, behind);
-    let plain = m.plain;
-    put_kept(out, at, target, true, 0, plain);
+    kept.put(out, at);
     Ok(at + behind)
 }

@@ -1,21 +1,20 @@
 -- What a program is answered, from what `path` answers.
 -- Assumes nothing.
 use mathlib.Core.Bool.{Bool, true, false, ◌&&◌, cond}
-use mathlib.Core.List.{List, ◌++◌, append_assoc}
+use mathlib.Core.List.{List, ◌++◌}
 use mathlib.Core.Path.{◌≡◌, refl, sym, ap, ◌∙◌}
 use Prim.Native.Nat.{ℕ, ◌+◌, ◌-◌, ◌≤◌, ◌<◌}
 use native.Mathlib.Omega.{arith}
 use lib.Dec.{leb}
 use lib.ListN.{length, take, drop, length-append, length-drop}
-use lib.Seq.{paste, take-length, take_at, drop_at, drop-drop, drop-append-le, length-take-le}
+use lib.Seq.{take_at, drop_at, drop-drop, drop-append-le, length-take-le}
 use borrow.Author.Tests.{le-leb, lt-leb, leb-true}
 use Rattle.text.specs.Utf8.{Bytes}
 use Rattle.path.specs.Path.{Name, names, normal, absolute, body, last_name}
 use Rattle.path.specs.Backward.{part}
-use Rattle.path.specs.Answer.{pick, formed, written, Forms}
+use Rattle.std.specs.Prelude.{Ok}
+use Rattle.path.specs.Answer.{Formed, too_long, pick, formed, written, Forms}
 use Rattle.path.proofs.Laws.{names-body, every_map, proper-shown, all_every, normal-proper}
-use Rattle.path.specs.declared.answer.Formed.{Formed}
-use Rattle.path.specs.declared.answer.Formed.TheVariants.{Text, TooLong}
 use Rattle.test_probe.specs.Numbers.{number_of, answer_of, buffer_of, Answers, name_answer, name_buffer, NameAnswers, staged, followed_text, fits, behind_answer, behind_buffer, BehindAnswers, room, follow_answer, follow_buffer, FollowAnswers}
 
 pub answers-short : (t before : Bytes) → length before < 1024 → Answers t before before 1000014
@@ -30,9 +29,6 @@ answers-formed {t} {before} {after} {f} {r} h w n =
     let e : leb 1024 (length before) ≡ true = le-leb 1024 (length before) h in
     record { answer = rw e (n ∙ ap number_of w.answer); buffer = rw e w.buffer }
 
-pub put-done : (out : Bytes) (at : ℕ) (s : Bytes) (j : ℕ) → j ≡ length s → paste out at s j ≡ take at out ++ (s ++ drop (at + length s) out)
-put-done out at s j e = rw (e, take-length) (append_assoc (take at out) s (drop (at + length s) out))
-
 -- ---- the last name
 
 module _ {path cwd before : Bytes} (n : Name) (e : n ≡ last_name (absolute (normal cwd) path)) where
@@ -42,12 +38,11 @@ module _ {path cwd before : Bytes} (n : Name) (e : n ≡ last_name (absolute (no
       let t : leb (length n) (length before) ≡ false = lt-leb (length n) (length before) h in
       record { answer = rw (← e) (rw t); buffer = rw (← e) (rw t) }
 
-  pub name-put : {after : Bytes} → length n ≤ length before → after ≡ n ++ drop (0 + length n) before → NameAnswers path cwd before after (length n)
+  pub name-put : {after : Bytes} → length n ≤ length before → after ≡ n ++ drop (length n) before → NameAnswers path cwd before after (length n)
   unfolding name_answer name_buffer
   name-put h w =
       let t : leb (length n) (length before) ≡ true = le-leb (length n) (length before) h in
-      let z : 0 + length n ≡ length n = omega arith in
-      record { answer = rw (← e) (rw t); buffer = rw (← e) (rw t (w ∙ ap (λ (x : ℕ). n ++ drop x before) z)) }
+      record { answer = rw (← e) (rw t); buffer = rw (← e) (rw t w) }
 
 -- ---- a link behind a directory that stands in the buffer
 
@@ -103,7 +98,7 @@ unfolding answer_of buffer_of formed written
 placed d before mid have w h = go (leb 1024 (length before)) refl (leb (length d) 1024) refl w.answer w.buffer
   where
     go : (x : Bool) → leb 1024 (length before) ≡ x → (y : Bool) → leb (length d) 1024 ≡ y
-        → have ≡ cond x (number_of (pick y (Text (length d)) TooLong)) 1000014
+        → have ≡ cond x (number_of (pick y (Ok (length d)) too_long)) 1000014
         → mid ≡ cond x (cond y (d ++ drop (length d) before) before) before → Placed d before mid have
     go true ex true ey a b = record { wide = leb-true 1024 (length before) ex; short = leb-true (length d) 1024 ey; count = a; text = b }
     go true ex false ey a b = absurd (omega arith)
@@ -113,7 +108,7 @@ unplaced : (dir : List Name) (before mid : Bytes) (have : ℕ) → Answers (body
 unfolding answer_of buffer_of formed written room
 unplaced dir before mid have w h = go (leb 1024 (length before)) (leb (length (body dir)) 1024) refl w.answer w.buffer
   where
-    go : (x y : Bool) → leb (length (body dir)) 1024 ≡ y → have ≡ cond x (number_of (pick y (Text (length (body dir))) TooLong)) 1000014
+    go : (x y : Bool) → leb (length (body dir)) 1024 ≡ y → have ≡ cond x (number_of (pick y (Ok (length (body dir))) too_long)) 1000014
         → mid ≡ cond x (cond y (body dir ++ drop (length (body dir)) before) before) before → (x && y ≡ false) × (mid ≡ before)
     go true true ey a b = absurd (omega (arith, leb-true (length (body dir)) 1024 ey))
     go true false ey a b = (refl, b)

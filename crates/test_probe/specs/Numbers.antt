@@ -1,18 +1,16 @@
 -- The numbers that this crate hands to a C or a Rust program, and what stands in its buffer.
 -- Assumes nothing.
-use Rattle.std.specs.Prelude.{Bool, ◌&&◌, cond, List, ◌++◌, ◌≡◌, ℕ, ◌+◌, leb, length, take, drop}
+use Rattle.std.specs.Prelude.{Bool, ◌&&◌, cond, List, ◌++◌, ◌≡◌, ℕ, ◌+◌, leb, length, take, drop, Option, Some, None, Ok, Err}
 use Rattle.text.specs.Utf8.{Bytes}
 use Rattle.path.specs.Path.{Name, names, normal, absolute, body, last_name}
-use Rattle.path.specs.Answer.{formed, written, PlaceIs}
-use Rattle.path.specs.declared.answer.Formed.{Formed}
-use Rattle.path.specs.declared.answer.Formed.TheVariants.{Text, TooLong}
+use Rattle.path.specs.Answer.{Formed, formed, written, PlaceIs}
 use Rattle.path.specs.declared.answer.Place.{Place}
-use Rattle.path.specs.declared.answer.Place.TheVariants.{InPath, InCwd, Nowhere}
+use Rattle.path.specs.declared.answer.Place.TheVariants.{InPath, InCwd}
 
 -- a length, or a million and the refusal's number
 abbrev pub number_of : Formed → ℕ
-number_of (Text n) = n
-number_of TooLong = 1000006
+number_of (Ok n) = n
+number_of (Err e) = 1000006
 
 -- the answer to a program that wants the text t in its buffer: 14, where the buffer is shorter than 1,024 bytes
 unfoldable pub answer_of : Bytes → Bytes → ℕ
@@ -28,26 +26,26 @@ pub record Answers (t before after : Bytes) (r : ℕ) : Type 0 where
   pub buffer : after ≡ buffer_of t before
 
 -- where a name stands, as three numbers: 1, in the path; 2, in the current directory; 0, nowhere
-abbrev pub which_of : Place → ℕ
-which_of (InPath a e) = 1
-which_of (InCwd a e) = 2
-which_of Nowhere = 0
+abbrev pub which_of : Option Place → ℕ
+which_of (Some (InPath a e)) = 1
+which_of (Some (InCwd a e)) = 2
+which_of None = 0
 
 -- where the name begins; 0 where there is none
-abbrev pub from_of : Place → ℕ
-from_of (InPath a e) = a
-from_of (InCwd a e) = a
-from_of Nowhere = 0
+abbrev pub from_of : Option Place → ℕ
+from_of (Some (InPath a e)) = a
+from_of (Some (InCwd a e)) = a
+from_of None = 0
 
 -- where the name ends; 0 where there is none
-abbrev pub to_of : Place → ℕ
-to_of (InPath a e) = e
-to_of (InCwd a e) = e
-to_of Nowhere = 0
+abbrev pub to_of : Option Place → ℕ
+to_of (Some (InPath a e)) = e
+to_of (Some (InCwd a e)) = e
+to_of None = 0
 
 -- the three numbers tell where the last name of the path once absolute stands
 pub record LastAt (path cwd : Bytes) (which from to : ℕ) : Type 0 where
-  pub place : Place
+  pub place : Option Place
   pub right : PlaceIs place path cwd
   pub which_told : which ≡ which_of place
   pub from_told : from ≡ from_of place

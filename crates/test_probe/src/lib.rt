@@ -1,7 +1,8 @@
 #![tactic(auto)]
 // Only for tests and timing: what `text`, `path` and `lawful` answer, by numbers and bytes; `test_probe_c` hands each function on to C
 // and Rust programs. No function asks anything of its caller.
-ghost use Rattle.std.specs.Prelude.{◌≡◌, cond, ◌++◌, ◌+◌, ◌≤◌, eqb, length, take, drop};
+// kept: an answer is a number, and a refusal its number, since C programs read them
+ghost use Rattle.std.specs.Prelude.{◌≡◌, cond, ◌≤◌, eqb, length, take};
 ghost use Rattle.text.specs.Utf8.{text};
 ghost use Rattle.path.specs.Path.{names, normal, absolute, body, lengths_ok};
 ghost use Rattle.layout.specs.Lent.{lends};
@@ -11,8 +12,8 @@ ghost use Rattle.test_probe.specs.Numbers.{Answers, LastAt, NameAnswers, FollowA
 
 use lawful::store_ok;
 use layout::slices::Slices;
-use path::answer::{Formed, Place};
-use path::lengths::lengths_ok;
+use path::answer::{Place, TooLong};
+use path::lengths::{LONGEST_PATH, lengths_ok};
 use path_form::last::{last_name, last_place};
 use path_form::link::follow;
 use path_form::{normalize_path, raw_path, to_absolute_path};
@@ -53,19 +54,19 @@ pub fn probe_lengths(s: &[u8]) -> u32
 }
 
 // The length, or a million and the refusal's number.
-fn number(f: Formed) -> u64
-    ensures { result ≡ number_of f }
+fn number(formed: Result<usize, TooLong>) -> u64
+    ensures { result ≡ number_of formed }
 {
-    match f {
-        Formed::Text(n) => n as u64,
-        Formed::TooLong => 1000006,
+    match formed {
+        Ok(n) => n as u64,
+        Err(TooLong) => 1000006,
     }
 }
 
 pub fn probe_normalize(out: &mut [u8], path: &[u8]) -> u64
     ensures { Answers (body (normal path.now)) out.old out.new result }
 {
-    if out.len() < 1024 {
+    if out.len() < LONGEST_PATH {
         return 1000014;
     }
     number(normalize_path(out, path))
@@ -74,7 +75,7 @@ pub fn probe_normalize(out: &mut [u8], path: &[u8]) -> u64
 pub fn probe_absolute(out: &mut [u8], cwd: &[u8], path: &[u8]) -> u64
     ensures { Answers (body (absolute (normal cwd.now) path.now)) out.old out.new result }
 {
-    if out.len() < 1024 {
+    if out.len() < LONGEST_PATH {
         return 1000014;
     }
     number(to_absolute_path(out, cwd, path))
@@ -83,39 +84,20 @@ pub fn probe_absolute(out: &mut [u8], cwd: &[u8], path: &[u8]) -> u64
 pub fn probe_raw(out: &mut [u8], path: &[u8]) -> u64
     ensures { Answers (body (names path.now)) out.old out.new result }
 {
-    if out.len() < 1024 {
+    if out.len() < LONGEST_PATH {
         return 1000014;
     }
     number(raw_path(out, path))
 }
 
-fn which(p: &Place) -> u32
-    ensures { result ≡ which_of p.now }
+// Which of the two texts holds the place, and where it begins and ends there.
+fn told(place: Option<Place>) -> (u32, usize, usize)
+    ensures { (result.0 ≡ which_of place) × (result.1 ≡ from_of place) × (result.2 ≡ to_of place) }
 {
-    match p {
-        Place::InPath(_, _) => 1,
-        Place::InCwd(_, _) => 2,
-        Place::Nowhere => 0,
-    }
-}
-
-fn starts_at(p: &Place) -> u64
-    ensures { result ≡ from_of p.now }
-{
-    match p {
-        Place::InPath(a, _) => *a as u64,
-        Place::InCwd(a, _) => *a as u64,
-        Place::Nowhere => 0,
-    }
-}
-
-fn ends_at(p: &Place) -> u64
-    ensures { result ≡ to_of p.now }
-{
-    match p {
-        Place::InPath(_, e) => *e as u64,
-        Place::InCwd(_, e) => *e as u64,
-        Place::Nowhere => 0,
+    match place {
+        Some(Place::InPath(a, e)) => (1, a, e),
+        Some(Place::InCwd(a, e)) => (2, a, e),
+        None => (0, 0, 0),
     }
 }
 
@@ -123,22 +105,10 @@ fn ends_at(p: &Place) -> u64
 pub fn probe_last(path: &[u8], cwd: &[u8], from: &mut u64, to: &mut u64) -> u32
     ensures { LastAt path.now cwd.now result from.new to.new }
 {
-    let p = last_place(path, cwd);
-    *from = starts_at(&p);
-    *to = ends_at(&p);
-    which(&p)
-}
-
-// The bytes of s from `at` on.
-fn put(out: &mut [u8], at: usize, s: &[u8])
-    requires { at + length s.now ≤ length out.old }
-    ensures { out.new ≡ take at out.old ++ (s.now ++ drop (at + length s.now) out.old) }
-{
-    let mut j = 0;
-    while j < s.len() {
-        out[at + j] = s[j];
-        j += 1;
-    }
+    let (which, start, end) = told(last_place(path, cwd));
+    *from = start as u64;
+    *to = end as u64;
+    which
 }
 
 // The last name itself, and its length; 14 where it does not fit.
@@ -149,7 +119,7 @@ pub fn probe_last_name<'a>(out: &mut [u8], path: &'a [u8], cwd: &'a [u8]) -> u64
     if out.len() < n.len() {
         return 1000014;
     }
-    put(out, 0, n);
+    out[..n.len()].copy_from_slice(n);
     n.len() as u64
 }
 
@@ -159,11 +129,12 @@ fn follow_behind(out: &mut [u8], have: usize, behind: &[u8], name: usize, target
         × (body (names (take have out.old)) ≡ take have out.old) }
     ensures { Behind have behind.now name target.now out.old out.new result }
 {
-    if 1024 - have < behind.len() {
+    if LONGEST_PATH - have < behind.len() {
         return 1000002;
     }
-    put(out, have, behind);
-    number(follow(out, have, have + name, have + behind.len(), target))
+    let len = have + behind.len();
+    out[have..len].copy_from_slice(behind);
+    number(follow(out, have, have + name, len, target))
 }
 
 // A link in the directory `dir`, met in the path whose bytes from the link's name on are `behind`; the name has `name` of
@@ -175,7 +146,7 @@ pub fn probe_follow(out: &mut [u8], dir: &[u8], behind: &[u8], name: usize, targ
         return 1000001;
     }
     let have = probe_normalize(out, dir);
-    if 1024 < have {
+    if LONGEST_PATH < have as usize {
         return have;
     }
     follow_behind(out, have as usize, behind, name, target)

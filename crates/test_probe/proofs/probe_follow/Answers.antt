@@ -7,8 +7,8 @@ use Rattle.test_probe.proofs.probe_follow.Goals as goal
 pub returns-then-behind-name : goal.returns-then-behind-name
 returns-then-behind-name c = follow_none _ (omega arith)
 
-pub returns-then-have-gt1024 : goal.returns-then-have-gt1024
-returns-then-have-gt1024 c = follow-refused _ (omega arith) c.probe_normalize-have.ensures (omega arith)
+pub returns-then-have-gt-LONGEST_PATH : goal.returns-then-have-gt-LONGEST_PATH
+returns-then-have-gt-LONGEST_PATH c = follow-refused _ (omega arith) c.probe_normalize-have.ensures (omega arith)
 
 pub follow_behind-requires : goal.follow_behind-requires
 follow_behind-requires c =

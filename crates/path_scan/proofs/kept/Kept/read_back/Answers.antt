@@ -1,4 +1,4 @@
--- `sifting::measure_back` meets its contract. The loop's invariant: what was read keeps names whose text is `len` long.
+-- `Kept::read_back` meets its contract. The loop's invariant: what was read keeps names whose text is `len` long.
 use mathlib.Core.List.{[], ◌∷◌}
 use mathlib.Core.Path.{refl, ◌∙◌}
 use native.Mathlib.Omega.{arith}
@@ -7,8 +7,8 @@ use Rattle.path.specs.Backward.{part}
 use Rattle.path.specs.Answer.{NextIs}
 use Rattle.path.proofs.Cutting.{part_length}
 use Rattle.path.proofs.Reading.{read_none, read-next, next_same, body_none, body-cons-length}
-use Rattle.path_scan.proofs.sifting.measure_back.Goals.{In-Some, In_default}
-use Rattle.path_scan.proofs.sifting.measure_back.Goals as goal
+use Rattle.path_scan.proofs.kept.Kept.read_back.Goals.{In-Some, In_default}
+use Rattle.path_scan.proofs.kept.Kept.read_back.Goals as goal
 
 pub loop-start-init : goal.loop-start-init
 loop-start-init c =
@@ -17,10 +17,10 @@ loop-start-init c =
 
 -- what is read in a turn
 found : (c : In-Some) → let a = c.args in let n = c.loop-start.names in let t = c.next.new.self in
-    NextIs a.strike a.s.now n.rest n.skip (Some (c.in-Some.start, c.in-Some.end)) t.rest t.skip
+    NextIs a.strike a.text.now n.rest n.skip (Some (c.in-Some.start, c.in-Some.end)) t.rest t.skip
 found c =
     let a = c.args in let l = c.loop-start in let n = l.names in let t = c.next.new.self in
-    next_same n.strike a.strike n.text.now a.s.now n.rest n.rest n.skip n.skip (Some (c.in-Some.start, c.in-Some.end)) t.rest t.skip
+    next_same n.strike a.strike n.text.now a.text.now n.rest n.rest n.skip n.skip (Some (c.in-Some.start, c.in-Some.end)) t.rest t.skip
     l.invariant.1 l.invariant.2 refl refl c.in-Some.ensures.steps.2
 
 pub loop-start-preserved : goal.loop-start-preserved
@@ -28,11 +28,11 @@ loop-start-preserved c =
     let a = c.args in let l = c.loop-start in let w = l.invariant in
     let x = c.next.ensures.steps in
     let n = found c in
-    let name = part c.in-Some.start c.in-Some.end a.s.now in (
+    let name = part c.in-Some.start c.in-Some.end a.text.now in (
       name ∷ w.0,
       x.0 ∙ w.1,
       x.1 ∙ w.2,
       read-next _ _ _ l.names.rest l.names.skip w.0 w.3 _ _ _ _ n,
-      omega (arith, n.1, w.4, body-cons-length name w.0, part_length c.in-Some.start c.in-Some.end a.s.now (omega (arith, n.2, w.3.room))),
+      omega (arith, n.1, w.4, body-cons-length name w.0, part_length c.in-Some.start c.in-Some.end a.text.now (omega (arith, n.2, w.3.room))),
       omega (arith, n.0, n.1, n.2, w.5),
     )

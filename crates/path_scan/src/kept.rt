@@ -1,0 +1,109 @@
+// What a text keeps: how much, and its names stored. A plain text, as most are, needs no reading from the end.
+ghost use Rattle.std.specs.Prelude.{◌≡◌, ◌+◌, ◌≤◌, length};
+ghost use Rattle.std.proofs.Props.{props};
+ghost use Rattle.path.specs.Answer.{PlainIs, ends_at};
+ghost use Rattle.path.specs.Backward.{sifted};
+ghost use Rattle.path.specs.Path.{body};
+
+use crate::plain::find_plain;
+use crate::sifting::KeptNames;
+use path::bytes::put_name;
+
+// A text, and what it keeps where what stands behind it drops `behind` names.
+#[derive(Drop)]
+pub struct Kept<'a> {
+    pub text: &'a [u8],
+    // Whether `..` drops a name or is one.
+    pub strike: bool,
+    pub behind: usize,
+    // The length of the kept names, a slash before each.
+    pub len: usize,
+    // How many names before the text are dropped.
+    pub skip: usize,
+    // Where the text is plain: the pieces between the two places are all names, and beside them stand at most a slash in front
+    // and one at the end. None: perhaps nowhere.
+    pub plain: Option<(usize, usize)>,
+    ghost small: { behind ≤ 9223372036854775808 },
+    ghost long: { len ≡ length (body (sifted strike behind text.now).kept) },
+    ghost drops: { skip ≡ (sifted strike behind text.now).skip },
+    ghost few: { skip ≤ behind + length text.now + 1 },
+    ghost stands: { PlainIs plain strike behind text.now } by { Prim.hlevel props },
+}
+
+impl<'a> Kept<'a> {
+    pub fn measure(text: &'a [u8], strike: bool, behind: usize) -> Self
+        requires { behind ≤ 9223372036854775808 }
+        ensures { (result.text.now ≡ text.now) × (result.strike ≡ strike) × (result.behind ≡ behind) }
+    {
+        if text.is_empty() {
+            return Self {
+                text,
+                strike,
+                behind,
+                len: 0,
+                skip: behind,
+                plain: None,
+            };
+        }
+        if behind == 0 {
+            if let Some((start, end)) = find_plain(text) {
+                return Self {
+                    text,
+                    strike,
+                    behind,
+                    len: end - start + 1,
+                    skip: 0,
+                    plain: Some((start, end)),
+                };
+            }
+        }
+        Self::read_back(text, strike, behind)
+    }
+
+    // The same of any text, read from its end.
+    fn read_back(text: &'a [u8], strike: bool, behind: usize) -> Self
+        requires { behind ≤ 9223372036854775808 }
+        ensures { (result.text.now ≡ text.now) × (result.strike ≡ strike) × (result.behind ≡ behind) }
+    {
+        let mut names = KeptNames::new(text, strike, behind);
+        let mut len = 0;
+        while let Some((start, end)) = names.next() {
+            len += end - start + 1;
+        }
+        Self {
+            text,
+            strike,
+            behind,
+            len,
+            skip: names.skip,
+            plain: None,
+        }
+    }
+
+    // The kept names, stored in front of `end`.
+    pub fn put(&self, out: &mut [u8], end: usize)
+        requires { (end ≤ length out.old) × (self.now.len ≤ end) }
+        ensures { out.new ≡ ends_at end (body (sifted self.now.strike self.now.behind self.now.text.now).kept) out.old }
+    {
+        if self.text.is_empty() {
+            return;
+        }
+        if let Some((start, stop)) = self.plain {
+            put_name(out, end - self.len, &self.text[start..stop]);
+            return;
+        }
+        self.put_back(out, end);
+    }
+
+    // The same of any text, read from its end.
+    fn put_back(&self, out: &mut [u8], end: usize)
+        requires { (end ≤ length out.old) × (self.now.len ≤ end) }
+        ensures { out.new ≡ ends_at end (body (sifted self.now.strike self.now.behind self.now.text.now).kept) out.old }
+    {
+        let mut at = end;
+        for (start, stop) in KeptNames::new(self.text, self.strike, self.behind) {
+            at -= stop - start + 1;
+            put_name(out, at, &self.text[start..stop]);
+        }
+    }
+}
