@@ -49,14 +49,6 @@ slash-look (b ∷ n) = go (eqb b 47) (slash-look n)
     go true e = refl
     go false e = e
 
-pub and_true_left : (a b : Bool) → a && b ≡ true → a ≡ true
-and_true_left true b e = refl
-and_true_left false b e = e
-
-pub and_true_right : (a b : Bool) → a && b ≡ true → b ≡ true
-and_true_right true b e = e
-and_true_right false b e = absurd (let z : ◌≡◌ {A = ℕ} 0 1 = cc in omega arith)
-
 -- a name with a slash
 slash-row : (rs : List Row) → any_row slash rs ≡ true → clean_rows rs ≡ false
 unfolding any_row clean_rows

@@ -10,6 +10,7 @@ use lib.Dec.{eqb, ltb}
 use lib.ListN.{length, take, drop, get_or, set}
 use lib.Seq.{take-take, take-suc-set, length-take-le}
 use borrow.Author.Tests.{lt-ltb, le-ltb, ne_eqb, ltb-true, eqb-true}
+use Rattle.std.proofs.lemmas.Bool.{and_parts}
 use Rattle.std.proofs.lemmas.List.{length-map, take-map, map_push}
 use Rattle.std.proofs.lemmas.List.Elements.{All-nil, All-same, All-push, All-take}
 use Rattle.text.specs.Utf8.{Bytes}
@@ -23,7 +24,7 @@ use Rattle.layout.specs.Rows.{Row, rows, name_total, path_by, path_of}
 use Rattle.layout.specs.Lawful.{follows}
 use Rattle.lawful_entries.specs.declared.span.Span.{Span}
 use Rattle.lawful_entries.specs.Fits.{kind_in, form_ok, entry_fits, walk_fits, rows_fit, row_at, name_at, Within, spell, Spelt}
-use Rattle.lawful_entries.proofs.Looking.{and_true_left, and_true_right, rows_at, rows_end, total_at}
+use Rattle.lawful_entries.proofs.Looking.{rows_at, rows_end, total_at}
 
 -- ---- the path that spans say
 
@@ -77,14 +78,14 @@ module _ (n : ℕ) (p : Path) (d : Bool) (r : Row) where
   -- what an entry that fits has
   module _ (e : entry_fits n p d r ≡ true) where
     pub fits-within : r.slot < n
-    fits-within = ltb-true r.slot n (and_true_left (ltb r.slot n) (form_ok r.name && follows p d r.depth r.name) e)
+    fits-within = ltb-true r.slot n (and_parts (ltb r.slot n) (form_ok r.name && follows p d r.depth r.name) e).0
 
     pub fits-depth : (1 ≤ r.depth) × (r.depth ≤ length p + 1)
-    fits-depth = go r.depth (and_true_right (form_ok r.name) (follows p d r.depth r.name) (and_true_right (ltb r.slot n) (form_ok r.name && follows p d r.depth r.name) e))
+    fits-depth = go r.depth (and_parts (form_ok r.name) (follows p d r.depth r.name) (and_parts (ltb r.slot n) (form_ok r.name && follows p d r.depth r.name) e).1).1
       where
         deep : (k : ℕ) (t : Bool) → ltb k (length p) ≡ t → cond t (precedes (get_or p k []) r.name) (eqb k (length p) && d) ≡ true → k ≤ length p
         deep k true q f = omega (arith, ltb-true k (length p) q)
-        deep k false q f = omega (arith, eqb-true k (length p) (and_true_left (eqb k (length p)) d f))
+        deep k false q f = omega (arith, eqb-true k (length p) (and_parts (eqb k (length p)) d f).0)
 
         go : (k : ℕ) → follows p d k r.name ≡ true → (1 ≤ k) × (k ≤ length p + 1)
         go zero f = absurd (let z : ◌≡◌ {A = ℕ} 0 1 = cc in omega arith)
@@ -132,7 +133,7 @@ module _ (kind : ℕ → ℕ) (n w : ℕ) (ws : List ℕ) (bs : Bytes) (l : name
 
   pub root_on : root_fits kind n w ≡ true → walk_fits kind n [] true (rows ws bs) ≡ rows_fit kind n (rows (w ∷ ws) bs)
   root_on e =
-      let z : nlen_of w ≡ 0 = eqb-true (nlen_of w) 0 (and_true_left (eqb (nlen_of w) 0) (ltb (slot_of w) n && eqb (kind (slot_of w)) 1) (and_true_right (eqb (depth_of w) 0) (eqb (nlen_of w) 0 && (ltb (slot_of w) n && eqb (kind (slot_of w)) 1)) e)) in
+      let z : nlen_of w ≡ 0 = eqb-true (nlen_of w) 0 (and_parts (eqb (nlen_of w) 0) (ltb (slot_of w) n && eqb (kind (slot_of w)) 1) (and_parts (eqb (depth_of w) 0) (eqb (nlen_of w) 0 && (ltb (slot_of w) n && eqb (kind (slot_of w)) 1)) e).1).0 in
       sym (root_at ∙ ap (λ (t : Bool). t && walk_fits kind n [] true (rows ws (drop (nlen_of w) bs))) e ∙ ap (λ (k : ℕ). walk_fits kind n [] true (rows ws (drop k bs))) z)
 
 -- the names behind the first
