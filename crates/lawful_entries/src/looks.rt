@@ -1,5 +1,5 @@
 // The bytes of names: one look at all of them, and a second only where some are not ASCII.
-ghost use Rattle.std.specs.Prelude.{◌≡◌, ◌+◌, ◌≤◌, length};
+ghost use Rattle.std.specs.Prelude.{◌≡◌, ◌≤◌, length};
 ghost use Rattle.std.specs.List.{list_any};
 ghost use Rattle.text.specs.Looks.{odd};
 ghost use Rattle.layout.specs.Rows.{rows, name_total};

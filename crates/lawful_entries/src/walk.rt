@@ -1,10 +1,10 @@
 // The walk over the records.
-ghost use Rattle.std.specs.Prelude.{true, ◌&&◌, [], ◌≡◌, ◌+◌, ◌*◌, ◌≤◌, ◌<◌, length, eqb, ltb};
-ghost use Rattle.layout.specs.Numbers.{most_entries, most_bytes, name_lengths};
+ghost use Rattle.std.specs.Prelude.{true, ◌&&◌, [], ◌≡◌, ◌+◌, ◌≤◌, ◌<◌, length, eqb, ltb};
+ghost use Rattle.layout.specs.Numbers.{most_entries, most_bytes};
 ghost use Rattle.layout.specs.Fields.{depth_of, nlen_of, slot_of};
 ghost use Rattle.layout.specs.Rows.{rows, name_total};
 ghost use Rattle.layout.specs.Lawful.{follows};
-ghost use Rattle.lawful_entries.specs.Fits.{kind_in, entry_fits, walk_fits, rows_fit, row_at, name_at, spell, Spelt};
+ghost use Rattle.lawful_entries.specs.Fits.{kind_in, entry_fits, walk_fits, rows_fit, row_at, spell, Spelt};
 
 use crate::rising::rises;
 use crate::span::Span;

@@ -18,6 +18,7 @@ fn entry_word(h: u64) -> bool
 }
 
 // Takes the slot of each record; false where one is taken already, or its word is none of an entry's.
+// kept beside slots::marks::mark_records: with the test of the word passed as a closure, the contract of one for both is longer than both
 pub fn take_named(recs: &[u64], heads: &[u64], taken: &mut [u8; MOST_SLOTS]) -> bool
     requires { (length heads.now ≤ most_slots) × Within (length heads.now) recs.now × (length taken.old ≡ most_slots)
         × ((k : ℕ) → get_or taken.old k 0 ≡ 0) × (filled taken.old ≡ 0) }
@@ -59,7 +60,8 @@ pub fn take_open(words: &[u64], heads: &[u64], taken: &mut [u8; MOST_SLOTS]) -> 
     Some(more)
 }
 
-// How many words are not 0. (A sum of ones: a filter that is counted takes three times as long.)
+// How many words are not 0.
+// kept: a sum of ones; a filter that is counted takes three times as long
 pub fn in_use(heads: &[u64]) -> usize
     requires { length heads.now ≤ most_slots }
     ensures { result ≡ filled heads.now }
