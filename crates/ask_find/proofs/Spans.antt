@@ -8,11 +8,11 @@ use native.Mathlib.Nat.{le_refl}
 use native.Mathlib.Omega.{arith}
 use native.Mathlib.Numerals.{add-one}
 use lib.Dec.{leb}
-use lib.ListN.{length, get_or}
+use lib.ListN.{length, drop, get_or, length-drop, drop_of_length-le}
+use lib.Seq.{drop-cons}
 use borrow.Author.Tests.{le-leb, lt-leb}
 use Rattle.layout.specs.Fields.{depth_of}
 use Rattle.ask_find.specs.Spans.{pick_n, span}
-use Rattle.ask_find.proofs.Reading.{from, from_at, from_end_lem, from_length}
 
 pub pick_n-le : (b : Bool) (x : ℕ) → pick_n b 0 x ≤ x
 pick_n-le true x = zero-le
@@ -36,18 +36,18 @@ unfolding span
 span-le d [] = zero-le
 span-le d (w ∷ ws) = omega (arith, span-le d ws, pick_n-le (leb (depth_of w) d) (suc (span d ws)))
 
-module _ (ws : List ℕ) (n : ℕ) (h : n ≤ length ws) where
-  pub span_fits : (d j : ℕ) → j ≤ n → j + span d (from ws n j) ≤ n
-  span_fits d j l = omega (arith, span-le d (from ws n j), from_length ws n j h l)
+module _ (ws : List ℕ) where
+  pub span_fits : (d j : ℕ) → j ≤ length ws → j + span d (drop j ws) ≤ length ws
+  span_fits d j l = omega (arith, span-le d (drop j ws), length-drop j ws)
 
-  pub span-end : (d j : ℕ) → n ≤ j → span d (from ws n j) ≡ 0
+  pub span-end : (d j : ℕ) → length ws ≤ j → span d (drop j ws) ≡ 0
   unfolding span
-  span-end d j l = rw (from_end_lem ws n j h l)
+  span-end d j l = rw (drop_of_length-le ws {i = j} l)
 
-  pub span_out : (d j : ℕ) → j < n → depth_of (get_or ws j 0) ≤ d → span d (from ws n j) ≡ 0
+  pub span_out : (d j : ℕ) → j < length ws → depth_of (get_or ws j 0) ≤ d → span d (drop j ws) ≡ 0
   unfolding span
-  span_out d j l k = rw (from_at ws n j h l, le-leb (depth_of (get_or ws j 0)) d k)
+  span_out d j l k = rw (drop-cons ws j 0 l, le-leb (depth_of (get_or ws j 0)) d k)
 
-  pub span_on : (d j : ℕ) → j < n → d < depth_of (get_or ws j 0) → span d (from ws n j) ≡ suc (span d (from ws n (suc j)))
+  pub span_on : (d j : ℕ) → j < length ws → d < depth_of (get_or ws j 0) → span d (drop j ws) ≡ suc (span d (drop (suc j) ws))
   unfolding span
-  span_on d j l k = rw (from_at ws n j h l, lt-leb (depth_of (get_or ws j 0)) d k)
+  span_on d j l k = rw (drop-cons ws j 0 l, lt-leb (depth_of (get_or ws j 0)) d k)

@@ -1,7 +1,8 @@
 -- Bytes used and links, by the words of the records: the bytes of the slots that a record has and of those that none has are those of
 -- all slots, and an entry is a link where its slot's kind says so.
 -- Assumes nothing.
-use mathlib.Core.Bool.{Bool, cond}
+use mathlib.Core.Bool.{Bool, true, false, cond}
+use Rattle.std.specs.List.{filter}
 use mathlib.Core.List.{List, [], ◌∷◌}
 use mathlib.Core.Logic.{◌⊎◌, inl, inr}
 use mathlib.Core.Path.{◌≡◌, refl, sym, ap, ◌∙◌, subst}
@@ -16,7 +17,7 @@ use Rattle.text.specs.Utf8.{Bytes}
 use Rattle.model.specs.Tree.{Path, Entries, links_in}
 use Rattle.model.specs.Calls.States.{bytes_used}
 use Rattle.model.proofs.Demand.Contents.{or_elim}
-use Rattle.layout.specs.Fields.{depth_of, len_of, nlen_of, slot_of}
+use Rattle.layout.specs.Fields.{depth_of, kind_of, len_of, nlen_of, slot_of}
 use Rattle.layout.specs.Rows.{Row, rows, name_total, path_of, tree_from}
 use Rattle.layout.specs.Store.{Store, count, holder, live, rows_of, kind_at, node_at, state}
 use Rattle.layout.specs.Lawful.{uses, held_from, Lawful}
@@ -29,6 +30,21 @@ use Rattle.ask_used.specs.Totals.{head_of, Slotted, held_total, link_total, tree
 use Rattle.slots.specs.Uses.{uses_in, Within}
 use Rattle.slots.proofs.Rowed.{uses-rows, words_within, used-once}
 use Rattle.ask_used.specs.Unnamed.{AllClosed, alone, alone_from, unnamed}
+
+-- ---- links
+
+-- whether the slot of a record is a link's
+abbrev pub link_test : List ℕ → ℕ → Bool
+link_test hs w = eqb (kind_of (head_of hs w)) 3
+
+pub links-are : (hs ws : List ℕ) → length (filter (link_test hs) ws) ≡ link_total hs ws
+unfolding link_total
+links-are hs [] = refl
+links-are hs (w ∷ ws) = go (link_test hs w) (links-are hs ws)
+  where
+    go : (b : Bool) → length (filter (link_test hs) ws) ≡ link_total hs ws → length (cond b (w ∷ filter (link_test hs) ws) (filter (link_test hs) ws)) ≡ cond b 1 0 + link_total hs ws
+    go true e = omega arith
+    go false e = omega arith
 
 -- ---- sums
 
@@ -186,14 +202,14 @@ fine st l n rs hs c e f =
 
 -- the bytes used of a store that has the slices
 module _ (ws rs hs : List ℕ) (st : Store) (e : st.words ≡ ws) (f : st.records ≡ rs) (g : st.heads ≡ hs) (l : Lawful st) where
-  tree_is : tree_bytes rs hs (get_or ws 2 0) ≡ name_total (live st) + held_total st.heads (live st)
-  tree_is = λ j. tree_bytes (sym f j) (sym g j) (get_or (sym e j) 2 0)
+  tree_is : tree_bytes (take (get_or ws 2 0) rs) hs ≡ name_total (live st) + held_total st.heads (live st)
+  tree_is = λ j. tree_bytes (take (get_or (sym e j) 2 0) (sym f j)) (sym g j)
 
-  pub used-closed : AllClosed ws → tree_bytes rs hs (get_or ws 2 0) ≡ bytes_used (state st)
+  pub used-closed : AllClosed ws → tree_bytes (take (get_or ws 2 0) rs) hs ≡ bytes_used (state st)
   used-closed c = tree_is ∙ closed-bytes st l (subst AllClosed (sym e) c)
 
-  pub used_all : tree_bytes rs hs (get_or ws 2 0) + unnamed (take (get_or ws 2 0) rs) hs ≡ bytes_used (state st)
-  used_all = (λ j. tree_bytes (sym f j) (sym g j) (get_or (sym e j) 2 0) + unnamed (take (get_or (sym e j) 2 0) (sym f j)) (sym g j)) ∙ bytes_by st l
+  pub used_all : tree_bytes (take (get_or ws 2 0) rs) hs + unnamed (take (get_or ws 2 0) rs) hs ≡ bytes_used (state st)
+  used_all = (λ j. tree_bytes (take (get_or (sym e j) 2 0) (sym f j)) (sym g j) + unnamed (take (get_or (sym e j) 2 0) (sym f j)) (sym g j)) ∙ bytes_by st l
 
 pub links-told : (rs hs : List ℕ) (n : ℕ) (st : Store) → st.records ≡ rs → st.heads ≡ hs → count st ≡ n → Lawful st → link_total hs (take n rs) ≡ links_in (state st).tree
 links-told rs hs n st e f c l = (λ j. link_total (sym f j) (take (sym c j) (sym e j))) ∙ links_by st l

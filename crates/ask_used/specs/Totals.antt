@@ -1,6 +1,6 @@
 -- Sums over entries, and over what lies below one.
 -- Assumes nothing.
-use Rattle.std.specs.Prelude.{cond, List, [], ◌∷◌, ◌≡◌, ℕ, ◌+◌, ◌≤◌, ◌<◌, leb, eqb, length, take, drop, get_or}
+use Rattle.std.specs.Prelude.{cond, List, [], ◌∷◌, ◌≡◌, ℕ, ◌+◌, ◌≤◌, ◌<◌, leb, eqb, length, drop, get_or}
 use Rattle.layout.specs.Numbers.{most_entries}
 use Rattle.layout.specs.Fields.{depth_of, nlen_of, slot_of, len_of, kind_of}
 use Rattle.layout.specs.Rows.{name_total}
@@ -34,32 +34,32 @@ unfoldable pub link_total : List ℕ → List ℕ → ℕ
 link_total hs [] = 0
 link_total hs (w ∷ ws) = cond (eqb (kind_of (head_of hs w)) 3) 1 0 + link_total hs ws
 
--- ---- the first n records
+-- ---- the records that there are
 
--- they are there, and so are their slots; record i is one of them, or stands behind them
-abbrev pub Upto : List ℕ → List ℕ → ℕ → ℕ → Type 0
-Upto ws hs n i = (n ≤ length ws) × (n ≤ most_entries) × (i ≤ n) × Slotted hs (take n ws)
+-- few, with their slots; record i is one of them, or stands behind them
+abbrev pub Upto : List ℕ → List ℕ → ℕ → Type 0
+Upto ws hs i = (length ws ≤ most_entries) × (i ≤ length ws) × Slotted hs ws
 
 -- record i is one of them
-abbrev pub Among : List ℕ → List ℕ → ℕ → ℕ → Type 0
-Among ws hs n i = (n ≤ length ws) × (n ≤ most_entries) × (i < n) × Slotted hs (take n ws)
+abbrev pub Among : List ℕ → List ℕ → ℕ → Type 0
+Among ws hs i = (length ws ≤ most_entries) × (i < length ws) × Slotted hs ws
 
 -- the bytes of the entry of record i with all below it
-abbrev pub whole_bytes : List ℕ → List ℕ → ℕ → ℕ → ℕ
-whole_bytes ws hs n i = entry_bytes hs (get_or ws i 0) + below hs (depth_of (get_or ws i 0)) (drop (i + 1) (take n ws))
+abbrev pub whole_bytes : List ℕ → List ℕ → ℕ → ℕ
+whole_bytes ws hs i = entry_bytes hs (get_or ws i 0) + below hs (depth_of (get_or ws i 0)) (drop (i + 1) ws)
 
 -- the record behind them
-abbrev pub whole_end : List ℕ → ℕ → ℕ → ℕ
-whole_end ws n i = i + 1 + span (depth_of (get_or ws i 0)) (drop (i + 1) (take n ws))
+abbrev pub whole_end : List ℕ → ℕ → ℕ
+whole_end ws i = i + 1 + span (depth_of (get_or ws i 0)) (drop (i + 1) ws)
 
 -- the bytes of all entries
-abbrev pub tree_bytes : List ℕ → List ℕ → ℕ → ℕ
-tree_bytes ws hs n = name_total (take n ws) + held_total hs (take n ws)
+abbrev pub tree_bytes : List ℕ → List ℕ → ℕ
+tree_bytes ws hs = name_total ws + held_total hs ws
 
 -- what lies below depth d from record i on
-abbrev pub TotalIs : List ℕ → List ℕ → ℕ → ℕ → ℕ → Sum → Type 0
-TotalIs ws hs n i d r = (r.bytes ≡ below hs d (drop i (take n ws))) × (r.next ≡ i + span d (drop i (take n ws)))
+abbrev pub TotalIs : List ℕ → List ℕ → ℕ → ℕ → Sum → Type 0
+TotalIs ws hs i d r = (r.bytes ≡ below hs d (drop i ws)) × (r.next ≡ i + span d (drop i ws))
 
 -- the entry of record i with all below it
-abbrev pub WholeIs : List ℕ → List ℕ → ℕ → ℕ → Sum → Type 0
-WholeIs ws hs n i r = (r.bytes ≡ whole_bytes ws hs n i) × (r.next ≡ whole_end ws n i)
+abbrev pub WholeIs : List ℕ → List ℕ → ℕ → Sum → Type 0
+WholeIs ws hs i r = (r.bytes ≡ whole_bytes ws hs i) × (r.next ≡ whole_end ws i)

@@ -9,10 +9,12 @@ ghost use Rattle.ask_used.specs.Unnamed.{AllClosed, unnamed, unmarked_bytes};
 ghost use Rattle.ask_used.specs.Answers.{Counted, Linked, Weighed, held_in, TellsUsed, TellsLinks, TellsWeight};
 
 use ask_find::Spot;
+use layout::kind::Kind;
 use layout::{
-    COUNT_AT, FILE_NUMBERS, HOLDER_AT, LENGTHS, MOST_SLOTS, NUMBER_WORDS, depth_of, kind_of,
-    len_of, nlen_of, slot_of,
+    COUNT_AT, FILE_NUMBERS, HOLDER_AT, MOST_SLOTS, NUMBER_WORDS, depth_of, kind_of, len_of,
+    nlen_of, slot_of,
 };
+use slots::marks::is_held;
 
 // The bytes of some entries, and the record behind them.
 #[derive(Drop)]
@@ -31,38 +33,35 @@ fn entry_bytes(heads: &[u64], w: u64) -> usize
 }
 
 // Whether nothing lies below record j, whose depth is t.
-fn is_leaf(records: &[u64], count: usize, j: usize, t: usize) -> bool
-    requires { (count ≤ length records.now) × (j < count) }
+fn is_leaf(records: &[u64], j: usize, t: usize) -> bool
+    requires { j < length records.now }
 {
-    let k = j + 1;
-    if k == count {
-        return true;
-    }
-    depth_of(records[k]) <= t
+    records.get(j + 1).is_none_or(|w| depth_of(*w) <= t)
 }
 
 // The bytes of a directory of depth d whose entries start at record i: the sum over its entries. next is the record behind them.
 // An entry with nothing below it is added up here, which saves a call for most.
 #[cycle(dir_total_entry_total)]
-fn dir_total(records: &[u64], heads: &[u64], count: usize, i: usize, d: usize) -> Sum
-    requires { Upto records.now heads.now count i }
-    ensures { TotalIs records.now heads.now count i d result }
+fn dir_total(records: &[u64], heads: &[u64], i: usize, d: usize) -> Sum
+    requires { Upto records.now heads.now i }
+    ensures { TotalIs records.now heads.now i d result }
 {
     let mut j = i;
     let mut s = 0;
-    while j < count {
+    // kept: a turn passes an entry with all below it, so no counter, range or iterator over the records gives its step.
+    while j < records.len() {
         let w = records[j];
         let t = depth_of(w);
         if t <= d {
             return Sum { bytes: s, next: j };
         }
-        if is_leaf(records, count, j, t) {
-            s = s + entry_bytes(heads, w);
+        if is_leaf(records, j, t) {
+            s += entry_bytes(heads, w);
             j += 1;
             continue;
         }
-        let e = entry_total(records, heads, count, j);
-        s = s + e.bytes;
+        let e = entry_total(records, heads, j);
+        s += e.bytes;
         j = e.next;
     }
     Sum { bytes: s, next: j }
@@ -70,13 +69,13 @@ fn dir_total(records: &[u64], heads: &[u64], count: usize, i: usize, d: usize) -
 
 // The bytes of the entry at record i with all below it: its own and those of its directory.
 #[cycle(dir_total_entry_total)]
-pub fn entry_total(records: &[u64], heads: &[u64], count: usize, i: usize) -> Sum
-    requires { Among records.now heads.now count i }
-    ensures { WholeIs records.now heads.now count i result }
+pub fn entry_total(records: &[u64], heads: &[u64], i: usize) -> Sum
+    requires { Among records.now heads.now i }
+    ensures { WholeIs records.now heads.now i result }
 {
     let w = records[i];
     let own = entry_bytes(heads, w);
-    let r = dir_total(records, heads, count, i + 1, depth_of(w));
+    let r = dir_total(records, heads, i + 1, depth_of(w));
     Sum {
         bytes: own + r.bytes,
         next: r.next,
@@ -84,35 +83,31 @@ pub fn entry_total(records: &[u64], heads: &[u64], count: usize, i: usize) -> Su
 }
 
 // The bytes of all entries, one after the other with all below it.
-fn tree_bytes(records: &[u64], heads: &[u64], count: usize) -> usize
-    requires { (count ≤ length records.now) × (count ≤ most_entries) × Slotted heads.now (take count records.now) }
-    ensures { result ≡ tree_bytes records.now heads.now count }
+fn tree_bytes(records: &[u64], heads: &[u64]) -> usize
+    requires { (length records.now ≤ most_entries) × Slotted heads.now records.now }
+    ensures { result ≡ tree_bytes records.now heads.now }
 {
     let mut k = 0;
     let mut s = 0;
-    while k < count {
-        let e = entry_total(records, heads, count, k);
-        s = s + e.bytes;
+    // kept: as in `dir_total`; that a directory is the sum over its entries, and an entry over its directory, is 01's rule.
+    while k < records.len() {
+        let e = entry_total(records, heads, k);
+        s += e.bytes;
         k = e.next;
     }
     s
 }
 
 // How many entries are links.
-fn link_count(records: &[u64], heads: &[u64], count: usize) -> usize
-    requires { (count ≤ length records.now) × Slotted heads.now (take count records.now) }
-    ensures { result ≡ link_total heads.now (take count records.now) }
+fn link_count(records: &[u64], heads: &[u64]) -> usize
+    requires { Slotted heads.now records.now }
+    ensures { result ≡ link_total heads.now records.now }
 {
-    let mut j = 0;
-    let mut n = 0;
-    while j < count {
-        let s = slot_of(records[j]);
-        if kind_of(heads[s]) == 3 {
-            n += 1;
-        }
-        j += 1;
-    }
-    n
+    let link = Kind::Link.code();
+    records
+        .iter()
+        .filter(|w| kind_of(heads[slot_of(**w)]) == link)
+        .count()
 }
 
 // The bytes of the slots that no record has marked: removed files that are still open.
@@ -120,16 +115,11 @@ fn unmarked(heads: &[u64], marks: &[u8; MOST_SLOTS]) -> usize
     requires { length heads.now ≤ most_slots }
     ensures { result ≡ unmarked_bytes marks.now heads.now }
 {
-    let mut i = 0;
-    let mut t: usize = 0;
-    while i < heads.len() {
-        let n = (heads[i] % LENGTHS) as usize;
-        let m = marks[i];
-        i += 1;
-        if m != 0 {
-            continue;
+    let mut t = 0;
+    for (h, m) in heads.iter().zip(marks) {
+        if *m == 0 {
+            t += len_of(*h);
         }
-        t += n;
     }
     t
 }
@@ -149,14 +139,7 @@ fn none_open(words: &[u64]) -> bool
     requires { extent_at ≤ length words.now }
     ensures { result ≡ true → AllClosed words.now }
 {
-    let mut j: usize = 0;
-    while j < FILE_NUMBERS {
-        if words[HOLDER_AT + NUMBER_WORDS * j] != 0 {
-            return false;
-        }
-        j += 1;
-    }
-    true
+    (0..FILE_NUMBERS).all(|j| words[HOLDER_AT + NUMBER_WORDS * j] == 0)
 }
 
 // "Bytes used are names, targets and contents in the tree, plus contents of removed files still open."
@@ -164,12 +147,12 @@ pub fn bytes_used(words: &[u64], records: &[u64], heads: &[u64]) -> usize
     requires { Counted words.now records.now heads.now }
     ensures { TellsUsed words.now records.now heads.now result }
 {
-    let count = words[COUNT_AT] as usize;
-    let tree = tree_bytes(records, heads, count);
+    let live = &records[..words[COUNT_AT] as usize];
+    let tree = tree_bytes(live, heads);
     if none_open(words) {
         return tree;
     }
-    tree + removed_bytes(&records[..count], heads)
+    tree + removed_bytes(live, heads)
 }
 
 // The number of links in the tree.
@@ -177,31 +160,17 @@ pub fn links_in(records: &[u64], heads: &[u64], count: usize) -> usize
     requires { Linked records.now heads.now count }
     ensures { TellsLinks records.now heads.now count result }
 {
-    link_count(records, heads, count)
+    link_count(&records[..count], heads)
 }
 
 // What an entry takes up: the length of its name, that of a file's contents or a link's target, and whether a file number stands on
 // it. A file that loses its name gives back the name, and the contents where no number stands on it.
+// kept: held and size are both asked for, each by itself: the size of a file that is open too.
 #[derive(Drop)]
 pub struct Weight {
     pub name: usize,
     pub size: usize,
     pub held: bool,
-}
-
-// Whether a file number stands on slot k.
-fn is_held(words: &[u64], k: usize) -> bool
-    requires { (extent_at ≤ length words.now) × (k < 1099511627776) }
-    ensures { result ≡ held_in words.now k }
-{
-    let mut j: usize = 0;
-    while j < FILE_NUMBERS {
-        if words[HOLDER_AT + NUMBER_WORDS * j] as usize == k + 1 {
-            return true;
-        }
-        j += 1;
-    }
-    false
 }
 
 // What the entry at the spot takes up.
@@ -215,6 +184,6 @@ pub fn weigh(words: &[u64], records: &[u64], heads: &[u64], spot: Spot) -> Weigh
     Weight {
         name: nlen_of(w),
         size: len_of(heads[k]),
-        held: is_held(words, k),
+        held: is_held(words, k as u64 + 1),
     }
 }

@@ -27,7 +27,7 @@ pub bounds-words-2 : goal.bounds-words-2
 bounds-words-2 c = omega (arith, wide (goal.at.bounds-words-2 c).Start)
 
 pub tree_bytes-tree-requires : goal.tree_bytes-tree-requires
-tree_bytes-tree-requires c = let f = at-hand (goal.at.tree_bytes-tree-requires c).Start in (f.long, f.few, f.slots)
+tree_bytes-tree-requires c = let f = at-hand (goal.at.tree_bytes-tree-requires c).Start in (omega (arith, f.few, length-take-le _ c.args.records.now f.long), f.slots)
 
 pub none_open-requires : goal.none_open-requires
 none_open-requires c = omega (arith, wide (goal.at.none_open-requires c).Start)
@@ -35,8 +35,8 @@ none_open-requires c = omega (arith, wide (goal.at.none_open-requires c).Start)
 pub returns-then-none_open : goal.returns-then-none_open
 returns-then-none_open c = λ st e f g l. let a = c.args in c.tree_bytes-tree.ensures ∙ used-closed a.words.now a.records.now a.heads.now st e f g l (c.none_open.ensures c.if-none_open.true)
 
-pub slice_bounds-removed_bytes-end : goal.slice_bounds-removed_bytes-end
-slice_bounds-removed_bytes-end c = sym (length-take-le _ _ (at-hand (goal.at.slice_bounds-removed_bytes-end c).Start).long)
+pub slice_bounds-live-end : goal.slice_bounds-live-end
+slice_bounds-live-end c = sym (length-take-le _ _ (at-hand (goal.at.slice_bounds-live-end c).Start).long)
 
 pub removed_bytes-requires : goal.removed_bytes-requires
 removed_bytes-requires c = let f = at-hand (goal.at.removed_bytes-requires c).Start in (f.heads, f.slots, f.once)

@@ -1,5 +1,8 @@
 -- `weigh` meets its contract: the record and the slot of the entry say what it takes up. Assumes nothing.
+use mathlib.Core.Path.{◌≡◌, sym}
+use Prim.Native.Nat.{◌+◌, ◌-◌}
 use native.Mathlib.Omega.{arith}
+use Rattle.ask_used.specs.Answers.{held_in}
 use Rattle.ask_used.proofs.Weighing.{Ready, ready, weight-told}
 use Rattle.ask_used.proofs.weigh.Goals.{Start}
 use Rattle.ask_used.proofs.weigh.Goals as goal
@@ -24,4 +27,6 @@ pub returns : goal.returns
 returns c =
     λ st e f g l p a.
     let b = c.args in
-    weight-told b.words.now b.records.now b.heads.now st e f g l b.spot p a c.slot_of-k.result c.nlen_of.result c.len_of.result c.is_held.result c.slot_of-k.ensures c.nlen_of.ensures c.len_of.ensures c.is_held.ensures
+    let k : c.slot_of-k.result + 1 - 1 ≡ c.slot_of-k.result = omega arith in
+    let held : c.is_held.result ≡ held_in b.words.now c.slot_of-k.result = rw (sym k) c.is_held.ensures in
+    weight-told b.words.now b.records.now b.heads.now st e f g l b.spot p a c.slot_of-k.result c.nlen_of.result c.len_of.result c.is_held.result c.slot_of-k.ensures c.nlen_of.ensures c.len_of.ensures held
