@@ -19,7 +19,7 @@ pub fn set_umask(words: &mut [u64], m: u32)
     requires { length words.old ≡ word_count }
     ensures { OnLawful (on_words words.old words.new) (Edits (umask m)) }
 {
-    words[MASK_AT] = m as u64;
+    words[MASK_AT] = u64::from(m);
 }
 
 // Puts a number at the position k.

@@ -10,21 +10,10 @@ returns-then-is_held c st l =
     let p = c.requires.2 in
     close-held _ l _ p.low p.on (sym c.if-is_held.true ∙ c.is_held.ensures)
 
-pub is_used-requires : goal.is_used-requires
-is_used-requires c =
-    let p = c.requires in
-    omega (arith, p.1.counted, p.1.exact.records, same_count _ p.1 _ p.2.low p.2.on)
-
 pub returns-then-is_used : goal.returns-then-is_used
 returns-then-is_used c st l =
     let p = c.requires.2 in
     close-named _ l _ p.low p.on (sym c.if-is_used.true ∙ c.is_used.ensures)
-
-pub clear-requires : goal.clear-requires
-clear-requires c =
-    let p = c.requires in
-    let s = stood _ p.1 _ p.2.low p.2.on in
-    (omega (arith, s.one, s.low), omega (arith, p.1.space, p.1.exact.bytes))
 
 pub returns : goal.returns
 returns c st l =

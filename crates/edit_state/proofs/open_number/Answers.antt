@@ -1,16 +1,9 @@
 -- `open_number` meets its contract. Assumes nothing.
 use Prim.Native.Nat.{◌+◌, ◌*◌}
 use native.Mathlib.Omega.{arith}
-use lib.ListN.{length-set}
 use Rattle.edit_state.proofs.Cells.{cell-fits}
 use Rattle.edit_state.proofs.Opening.{opens-spells}
 use Rattle.edit_state.proofs.open_number.Goals as goal
-
-pub bounds-words-n-2 : goal.bounds-words-n-2
-bounds-words-n-2 c = simp length-set (omega (arith, c.requires.3, c.requires.0))
-
-pub bounds-words-n-3 : goal.bounds-words-n-3
-bounds-words-n-3 c = simp length-set (omega (arith, c.requires.3, c.requires.0))
 
 pub copy_into-requires : goal.copy_into-requires
 copy_into-requires c = omega (arith, c.requires.3, c.requires.1, cell-fits _ c.requires.2)

@@ -4,4 +4,4 @@ use Rattle.edit_state.proofs.Setting.{umask-spells}
 use Rattle.edit_state.proofs.set_umask.Goals as goal
 
 pub returns : goal.returns
-returns c st l = umask-spells _ l _ (omega arith)
+returns c st l = rw c.from.ensures (umask-spells _ l _ (omega arith))

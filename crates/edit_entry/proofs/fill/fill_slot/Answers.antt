@@ -1,7 +1,6 @@
 -- `fill_slot` meets its contract. Assumes nothing.
-use mathlib.Core.Path.{◌≡◌, ◌∙◌}
+use mathlib.Core.Path.{◌≡◌}
 use Rattle.std.proofs.Common.{rules, w64, to_z, of_z}
-use lib.ListN.{length-set}
 use Rattle.edit_entry.proofs.Fills.{may_write, filled}
 use Rattle.edit_entry.proofs.fill.fill_slot.Goals as goal
 
@@ -9,9 +8,6 @@ pub write-requires : goal.write-requires
 write-requires c =
     let a = c.requires in
     rw c.bytes.ensures (may_write _ _ c.args.made c.args.new _ (cc) a.2 a.0 _ a.4 a.5)
-
-pub shape_of-heads : goal.shape_of-heads
-shape_of-heads c = c.write.auto.heads ∙ length-set c.args.heads.now _ _
 
 pub returns : goal.returns
 returns c =

@@ -1,10 +1,7 @@
 -- `insert_entry` meets its contract. Assumes nothing.
 use mathlib.Core.Path.{refl}
-use Rattle.edit_entry.proofs.Inserts.{placed, slot_small, may-open, may-fill, inserted-at}
+use Rattle.edit_entry.proofs.Inserts.{placed, slot_small, may-open, inserted-at}
 use Rattle.edit_entry.proofs.insert.insert_entry.Goals as goal
-
-pub vacant_slot-s-requires : goal.vacant_slot-s-requires
-vacant_slot-s-requires c = c.requires.2.1.free
 
 pub record_word-word-requires : goal.record_word-word-requires
 record_word-word-requires c =
@@ -16,11 +13,6 @@ pub open_entry-requires : goal.open_entry-requires
 open_entry-requires c =
     let p = c.requires in
     may-open p.1 p.2.1.allowed (placed p.1 p.2.1.vacant) c.vacant_slot-s.ensures c.record_word-word.ensures
-
-pub fill_slot-requires : goal.fill_slot-requires
-fill_slot-requires c =
-    let p = c.requires in
-    may-fill p.1 p.2.1.allowed (placed p.1 p.2.1.vacant) c.vacant_slot-s.ensures c.record_word-word.ensures c.open_entry.ensures
 
 pub returns : goal.returns
 returns c st l q m =

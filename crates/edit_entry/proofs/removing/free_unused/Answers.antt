@@ -1,28 +1,14 @@
 -- `free_unused` meets its contract: the marks say who uses each slot.
 -- Assumes nothing.
-use mathlib.Core.Path.{sym}
 use Prim.Native.Nat.{ℕ}
 use native.Mathlib.Omega.{arith}
 use lib.ListN.{length-replicate}
-use lib.Seq.{length-take-le}
 use Rattle.layout.proofs.Zeros.{zeros-read}
 use Rattle.edit_entry.proofs.Clears.{all_marked, used-swept}
 use Rattle.edit_entry.proofs.removing.free_unused.Goals as goal
 
 pub mark_records-requires : goal.mark_records-requires
 mark_records-requires c = ((λ i h. omega (arith, c.requires.3 i h, c.requires.2)), length-replicate {A = ℕ} 4128 0, zeros-read 4128)
-
-pub mark_numbers-requires : goal.mark_numbers-requires
-mark_numbers-requires c =
-    let s = c in let m = c.mark_records in
-    let t = all_marked s.args.words.now s.args.recs.now s.args.heads.now s.requires.3 s.requires.4 _ m.result m.ensures.0 in
-    (s.requires.0, s.requires.1, m.ensures.1, λ k. omega (arith, (t k).0, (t k).1))
-
-pub slice_bounds-sweep-end : goal.slice_bounds-sweep-end
-slice_bounds-sweep-end c = sym (length-take-le _ _ (omega (arith, c.mark_numbers.ensures.1, c.requires.2)))
-
-pub sweep-requires : goal.sweep-requires
-sweep-requires c = (length-take-le _ _ (omega (arith, c.mark_numbers.ensures.1, c.requires.2)), c.requires.5)
 
 pub returns : goal.returns
 returns c =

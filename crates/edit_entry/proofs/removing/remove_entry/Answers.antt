@@ -1,7 +1,5 @@
 -- `remove_entry` meets its contract. Assumes nothing.
-use mathlib.Core.Path.{refl, sym}
-use native.Mathlib.Omega.{arith}
-use lib.Seq.{length-take-le}
+use mathlib.Core.Path.{refl}
 use Rattle.edit_entry.proofs.Removes.{may-free-one, removed-one, may-free-unused, removed-more}
 use Rattle.edit_entry.proofs.removing.remove_entry.Goals as goal
 
@@ -16,11 +14,6 @@ returns-then-e-i-eq1 c st l =
     let g = c.args in
     let p = c.requires in
     removed-one g.words.now g.records.now g.heads.now st.times st.paths g.bytes.now g.i g.e l (record { first = p.2.first; some = p.2.some; last = p.2.last; below = p.2.below; behind = p.2.behind }) _ refl _ _ c.close_entries.ensures c.if-e-i-eq1.true _ c.slot_of-s.ensures _ _ c.free_one.ensures
-
-pub slice_bounds-free_unused-end-2 : goal.slice_bounds-free_unused-end-2
-slice_bounds-free_unused-end-2 c =
-    let p = c.requires in
-    sym (length-take-le _ _ (omega (arith, c.close_entries.ensures.record_count, p.1.exact.records, p.1.counted)))
 
 pub free_unused-requires : goal.free_unused-requires
 free_unused-requires c =
