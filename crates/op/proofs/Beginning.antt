@@ -2,17 +2,16 @@
 -- Assumes nothing.
 use mathlib.Core.Bool.{Bool, true, false, ◌&&◌}
 use mathlib.Core.List.{[], ◌∷◌}
-use mathlib.Core.Path.{◌≡◌, refl, sym, ap, ◌∙◌, subst}
+use mathlib.Core.Path.{◌≡◌, refl, sym, ◌∙◌, subst}
 use Prim.Native.Nat.{ℕ, ◌≤◌}
 use native.Mathlib.Omega.{arith}
 use lib.Dec.{leb}
 use lib.ListN.{length}
 use borrow.Author.Tests.{leb-true}
+use Rattle.std.specs.Prelude.{Some, Result, Ok, Err}
 use Rattle.text.specs.Utf8.{Bytes, text}
-use Rattle.text.proofs.Laws.{text_none}
-use Rattle.path.specs.Path.{pieces, all_short, lengths_ok}
-use Rattle.path.specs.declared.answer.Formed.{Formed}
-use Rattle.path.specs.declared.answer.Formed.TheVariants.{Text, TooLong}
+use Rattle.path.specs.Path.{lengths_ok}
+use Rattle.path.specs.declared.answer.TooLong.{TooLong}
 use Rattle.model.specs.Refusals.{bad_text, text_too_long, bad_number, short_buffer}
 use Rattle.model.specs.Tree.{Path}
 use Rattle.model.specs.Prog.{Prog, ◌>>=◌, ◌>>◌, need, refused, run}
@@ -20,33 +19,29 @@ use Rattle.model.specs.Operations.Steps.{Reply}
 use Rattle.model.specs.Operations.Directories.{on_given}
 use Rattle.model.specs.Calls.States.{State, world_of}
 use Rattle.model.specs.Calls.Calling.{all, first_of, no_number, number_fits, screen}
-use Rattle.model.proofs.Entries.{is_true}
+use Rattle.refusal.specs.declared.Refusal.{Refusal}
+use Rattle.refusal.specs.declared.Refusal.TheVariants.{NotFound, PathTooLong}
 use Rattle.layout.specs.Store.{Store}
 use Rattle.layout.specs.Lawful.{Passes}
 use Rattle.layout.specs.Answers.{read_back}
-use Rattle.op.specs.declared.ready.Work.TheVariants as work
 use Rattle.op.specs.declared.ready.Number.TheVariants as number
 use Rattle.op.specs.declared.begin.Sort.{Sort}
 use Rattle.op.specs.declared.begin.Sort.TheVariants as sort
-use Rattle.op.specs.declared.begin.Begun.{Begun}
-use Rattle.op.specs.declared.begin.Begun.TheVariants as begun
-use Rattle.op.specs.Testing.{screen_of, Tested, AbsoluteIs, PathIn}
+use Rattle.op.specs.Testing.{Tested, AbsoluteIs}
 use Rattle.op.specs.Testing as testing
 use Rattle.op.specs.Beginning.{taken, Stops, screened, Begins, broken, tested}
 use Rattle.op.proofs.Leading.{path-formed, path-long}
 
 -- ---- the path
 
-module _ (s : State) (path out : Bytes) (r : Formed) (a : AbsoluteIs s path out r) where
-  pub stops_at : (n : ℕ) → r ≡ Text n → 1024 ≤ length out → Stops s sort.Any path out (begun.At n)
+module _ {s : State} {path out : Bytes} where
+  pub stops_at : {n : ℕ} → AbsoluteIs s path out (Ok n) → 1024 ≤ length out → Stops s sort.Any path out (Ok n)
   unfolding Stops
-  stops_at n e h =
-      let y = subst (AbsoluteIs s path out) e a in
-      (record { few = y.kept.0; room = h; plain = y.kept.1 }, λ f. path-formed s path out r a f n e)
+  stops_at a h = (record { few = a.kept.0; room = h; plain = a.kept.1 }, λ f. path-formed f a)
 
-  pub stops-long : r ≡ TooLong → Stops s sort.Any path out (begun.Refused 6)
+  pub stops-long : {e : TooLong} → AbsoluteIs s path out (Err e) → Stops s sort.Any path out (Err PathTooLong)
   unfolding Stops
-  stops-long e = λ f. path-long s path out r a f e
+  stops-long a = λ f. path-long f a
 
 -- a path with bytes in it is taken as any is
 given_some : (s : State) (path : Bytes) → (length path ≡ 0 → ⊥) → (f : Path → Prog Reply) → run (on_given path f) (world_of s) ≡ run (taken sort.Any path f) (world_of s)
@@ -54,39 +49,22 @@ unfolding on_given need ◌>>=◌ ◌>>◌
 given_some s [] h f = absurd (h refl)
 given_some s (b ∷ path) h f = refl
 
-pub given_none : (s : State) (path out : Bytes) (o : Sort) → o ≡ sort.Named → length path ≡ 0 → Stops s o path out (begun.Refused 8)
+pub given_none : (s : State) (path out : Bytes) (o : Sort) → o ≡ sort.Named → length path ≡ 0 → Stops s o path out (Err NotFound)
 unfolding on_given need ◌>>=◌ ◌>>◌ run Stops
-given_none s path out o e h = subst (λ (x : Sort). Stops s x path out (begun.Refused 8)) (sym e) (at path h)
+given_none s path out o e h = subst (λ (x : Sort). Stops s x path out (Err NotFound)) (sym e) (at path h)
   where
     at : (p : Bytes) → length p ≡ 0 → (f : Path → Prog Reply) → run (on_given p f) (world_of s) ≡ refused 8
     at [] h f = refl
     at (b ∷ p) h f = absurd (omega arith)
 
-pub as_any : (s : State) (path out : Bytes) (o : Sort) (b : Begun) → o ≡ sort.Any → Stops s sort.Any path out b → Stops s o path out b
-as_any s path out o b e h = subst (λ (x : Sort). Stops s x path out b) (sym e) h
-
-pub as_named : (s : State) (path out : Bytes) (o : Sort) (b : Begun) → o ≡ sort.Named → (length path ≡ 0 → ⊥) → Stops s sort.Any path out b → Stops s o path out b
+-- however it is taken
+pub as_taken : (s : State) (path out : Bytes) (o : Sort) (b : Result ℕ Refusal) → (o ≡ sort.Named → length path ≡ 0 → ⊥) → Stops s sort.Any path out b → Stops s o path out b
 unfolding Stops
-as_named s path out o b e h k = subst (λ (x : Sort). Stops s x path out b) (sym e) (at b k)
-  where
-    at : (b : Begun) → Stops s sort.Any path out b → Stops s sort.Named path out b
-    at (begun.At n) k = (k.0, λ f. given_some s path h f ∙ k.1 f)
-    at (begun.Refused n) k = λ f. given_some s path h f ∙ k f
+as_taken s path out sort.Any b h k = k
+as_taken s path out sort.Named (Ok n) h k = (k.0, λ f. given_some s path (h refl) f ∙ k.1 f)
+as_taken s path out sort.Named (Err e) h k = λ f. given_some s path (h refl) f ∙ k f
 
 -- ---- the tests
-
--- an empty text passes
-pub empty-text : text [] ≡ true
-empty-text = is_true (text []) text_none
-
-pub empty-lengths : lengths_ok [] ≡ true
-unfolding lengths_ok all_short pieces
-empty-lengths = refl
-
--- so that one more changes nothing
-pub one_text : (first second path : Bytes) (s : State) → screen_of (work.Lent (length first) (length second)) path [] number.NotGiven s ≡ screened first second path s
-unfolding screen all
-one_text first second path s = rw (empty-text, empty-lengths) refl
 
 -- a call that goes on has room for a path
 pub enough : (first second path : Bytes) (s : State) → 0 ≡ screened first second path s → 1024 ≤ length first
@@ -100,19 +78,13 @@ enough first second path s e = go (leb 1024 (length first)) refl e
     go true x y = leb-true 1024 (length first) x
     go false x y = absurd (omega (arith, y))
 
-module _ (st : Store) (first second path : Bytes) (r : ℕ) (t : Tested st (work.Lent (length first) (length second)) path [] number.NotGiven r) where
+module _ {st : Store} (first second path : Bytes) where
   -- a test that failed
-  pub begin-refused : (o : Sort) (out : Bytes) → (r ≡ 0 → ⊥) → Begins st first second o path out (begun.Refused r)
-  begin-refused o out h = go t
-    where
-      go : Tested st (work.Lent (length first) (length second)) path [] number.NotGiven r → Begins st first second o path out (begun.Refused r)
-      go (testing.broken k e) = broken k (ap begun.Refused e)
-      go (testing.passing p e) = tested p r refl h (e ∙ one_text first second path (read_back st))
+  pub begin-refused : {o : Sort} {out : Bytes} {e : Refusal} → Tested st (Some (length first, length second)) (path ∷ []) number.NotGiven (Err e) → Begins st first second o path out (Err e)
+  begin-refused {e = e} (testing.broken k x) = broken k (cc)
+  begin-refused {e = e} (testing.passing p x) = tested p e refl x
 
   -- none did
-  pub begin-passes : r ≡ 0 → Passes st × (0 ≡ screened first second path (read_back st))
-  begin-passes z = go t
-    where
-      go : Tested st (work.Lent (length first) (length second)) path [] number.NotGiven r → Passes st × (0 ≡ screened first second path (read_back st))
-      go (testing.broken k e) = absurd (omega (arith, z, e))
-      go (testing.passing p e) = (p, sym z ∙ e ∙ one_text first second path (read_back st))
+  pub begin-passes : Tested st (Some (length first, length second)) (path ∷ []) number.NotGiven (Ok tt) → Passes st × (0 ≡ screened first second path (read_back st))
+  begin-passes (testing.broken k x) = absurd (let z : ◌≡◌ {A = ℕ} 0 1 = cc in omega arith)
+  begin-passes (testing.passing p x) = (p, x)

@@ -17,6 +17,10 @@ use Rattle.model.specs.Operations.Contents.{read_at}
 use Rattle.model.specs.Operations.Shows.{metadata_at, symlink_metadata_at, read_link_at, list_at}
 use Rattle.model.specs.Calls.Performing.{settle, result_number, program}
 use Rattle.model.specs.Buffers.{Outputs, outputs_after}
+use Rattle.std.specs.Prelude.{Ok, Err}
+use Rattle.refusal.specs.Numbers.{number_of}
+use Rattle.refusal.specs.declared.Refusal.{Refusal}
+use Rattle.refusal.specs.declared.Refusal.TheVariants as is
 use Rattle.layout.specs.Store.{Store, core}
 use Rattle.layout.specs.Lawful.{Passes, Sized}
 use Rattle.layout.specs.Answers.{Lent, call_of, read_back, Answers}
@@ -24,12 +28,11 @@ use Rattle.model.specs.Buffers.{cleared}
 use Rattle.store.specs.Shows.{Shows}
 use Rattle.op.specs.declared.begin.Sort.{Sort}
 use Rattle.op.specs.declared.begin.Sort.TheVariants as sort
-use Rattle.op.specs.declared.begin.Begun.{Begun}
-use Rattle.op.specs.declared.begin.Begun.TheVariants as begun
 use Rattle.op.specs.Doing.{Does, Done}
-use Rattle.op.specs.Testing.{PathIn}
+use Rattle.walk.specs.Meets.{PathIn}
 use Rattle.op.specs.Beginning.{taken, Stops, screened, Begins, broken, tested, formed}
-use Rattle.op.proofs.Cutting.{cut, shows-cut, Returned, not_written}
+use Rattle.op.specs.Parts.{cut}
+use Rattle.op.proofs.Cutting.{shows-cut, Returned, not_written}
 use Rattle.op.proofs.Doing.{does-refused, done-broken, done-screened, done-does}
 
 -- programs with one run come to the same
@@ -40,8 +43,24 @@ same_run {s = s} {u = u} {o = o} e d = record {
   shows = subst (λ (x : Out Reply). Shows u (settle s x).after) (sym e) d.shows;
 }
 
-no_refusal : {A : Type 0} {n r : ℕ} → begun.At n ≡ begun.Refused r → A
-no_refusal e = absurd (let z : ◌≡◌ {A = ℕ} 0 1 = cc in omega arith)
+-- a refusal is not 0
+pub not-zero : (e : Refusal) → number_of e ≡ 0 → ⊥
+not-zero is.BadStore z = absurd (omega arith)
+not-zero is.BadText z = absurd (omega arith)
+not-zero is.TextTooLong z = absurd (omega arith)
+not-zero is.BadNumber z = absurd (omega arith)
+not-zero is.NoLastName z = absurd (omega arith)
+not-zero is.PathTooLong z = absurd (omega arith)
+not-zero is.LinkLoop z = absurd (omega arith)
+not-zero is.NotFound z = absurd (omega arith)
+not-zero is.NotDirectory z = absurd (omega arith)
+not-zero is.WrongKind z = absurd (omega arith)
+not-zero is.UnderItself z = absurd (omega arith)
+not-zero is.AlreadyThere z = absurd (omega arith)
+not-zero is.BadSeek z = absurd (omega arith)
+not-zero is.ShortBuffer z = absurd (omega arith)
+not-zero is.NoEntries z = absurd (omega arith)
+not-zero is.NoBytes z = absurd (omega arith)
 
 -- ---- calls with one path
 
@@ -78,8 +97,21 @@ pub current-takes : (path : Bytes) → Takes (set_current_dir path) sort.Named p
 unfolding given_to program
 current-takes path = record { given = refl; does = λ b. refl }
 
-module _ (l : Lent) (st : Store) (o : Sort) (path out : Bytes) (b : Begun) (f : ℕ → Path → Prog Reply) (t : Takes l.op o path f)
-    (x : Begins st l.first l.second o path out b) where
+-- the slices pass where the call goes on, and the path is there
+module _ {st : Store} {first second : Bytes} {o : Sort} {path out : Bytes} {n : ℕ} where
+  began : Begins st first second o path out (Ok n) → Passes st × (0 ≡ screened first second path (read_back st)) × Stops (read_back st) o path out (Ok n)
+  began (broken h z) = absurd (let k : ◌≡◌ {A = ℕ} 0 1 = cc in omega arith)
+  began (tested p e z t) = absurd (let k : ◌≡◌ {A = ℕ} 0 1 = cc in omega arith)
+  began (formed p z k) = (p, z, k)
+
+  pub begins-passes : Begins st first second o path out (Ok n) → Passes st
+  begins-passes b = (began b).0
+
+  pub begins-path : Begins st first second o path out (Ok n) → PathIn out n
+  unfolding Stops
+  begins-path b = (began b).2.0
+
+module _ (l : Lent) (st : Store) {o : Sort} {path : Bytes} {f : ℕ → Path → Prog Reply} (t : Takes l.op o path f) where
   abbrev s : State
   s = read_back st
 
@@ -93,46 +125,28 @@ module _ (l : Lent) (st : Store) (o : Sort) (path out : Bytes) (b : Begun) (f : 
   whole_run r k = ap (λ (p : Prog Reply). run p (world_of s)) (t.does bound) ∙ k
 
   -- 1, 14, 2, 3, or 8 or 6
-  pub done_refused : (r : ℕ) → b ≡ begun.Refused r → Done l st st l.outputs r
+  pub done_refused : {out : Bytes} {e : Refusal} → Begins st l.first l.second o path out (Err e) → Done l st st l.outputs (number_of e)
   unfolding Stops
-  done_refused r y = go x
-    where
-      number : (n m : ℕ) → begun.Refused n ≡ begun.Refused m → n ≡ m
-      number n m k = cc
+  done_refused {e = e} (broken h z) = done-broken l st h (number_of e) (cc)
+  done_refused {e = e} (tested p d z k) = let i : e ≡ d = cc in done-screened l st p (number_of e) (not-zero e) (ap number_of i ∙ k ∙ tests)
+  done_refused {e = e} (formed p z k) =
+      done-does l st p (z ∙ tests) (cut st) st l.outputs (number_of e)
+      (does-refused _ s (cut st) (shows-cut st p) l.outputs (number_of e) (whole_run (refused (number_of e)) (k (f bound)))) (not_written st) p.2
 
-      go : Begins st l.first l.second o path out b → Done l st st l.outputs r
-      go (broken h z) = done-broken l st h r (number r _ (sym y ∙ z))
-      go (tested p n z k t) =
-          let i : r ≡ n = number r n (sym y ∙ z) in
-          done-screened l st p r (λ j. k (sym i ∙ j)) (i ∙ t ∙ tests)
-      go (formed p z k) =
-          done-does l st p (z ∙ tests) (cut st) st l.outputs r
-          (does-refused _ s (cut st) (shows-cut st p) l.outputs r (whole_run (refused r) (subst (Stops s o path out) y k (f bound)))) (not_written st) p.2
+  -- what the operation comes to at the path
+  pub done_at : {out : Bytes} {n : ℕ} → Begins st l.first l.second o path out (Ok n) → (u after : Store) (to : Outputs) (r : ℕ) → Does (f bound (names (take n out))) s u l.outputs to r
+      → Returned st u after → Sized (core after) → Done l st after to r
+  unfolding Stops
+  done_at b u after to r d k z =
+      let p = began b in
+      done-does l st p.0 (p.1 ∙ tests) u after to r (same_run (whole_run _ (p.2.1 (f bound))) d) k z
 
-  module _ (n : ℕ) (y : b ≡ begun.At n) where
-    -- the path is there
-    pub began : Passes st × (0 ≡ screened l.first l.second path s) × Stops s o path out (begun.At n)
-    began = go x
-      where
-        go : Begins st l.first l.second o path out b → Passes st × (0 ≡ screened l.first l.second path s) × Stops s o path out (begun.At n)
-        go (broken h z) = no_refusal (sym y ∙ z)
-        go (tested p m z k t) = no_refusal (sym y ∙ z)
-        go (formed p z k) = (p, z, subst (Stops s o path out) y k)
-
-    pub path-there : PathIn out n
-    unfolding Stops
-    path-there = began.2.0
-
-    -- what the operation comes to there
-    pub done_at : (u after : Store) (to : Outputs) (r : ℕ) → Does (f bound (names (take n out))) s u l.outputs to r → Returned st u after → Sized (core after) → Done l st after to r
-    unfolding Stops
-    done_at u after to r d k z =
-        done-does l st began.0 (began.1 ∙ tests) u after to r (same_run (whole_run _ (began.2.1 (f bound))) d) k z
-
-    -- without an edit
-    pub done-asked : (to : Outputs) (r : ℕ) → Does (f bound (names (take n out))) s (cut st) l.outputs to r → Done l st st to r
-    done-asked to r d = done_at (cut st) st to r d (not_written st) began.0.2
+  -- without an edit
+  pub done-asked : {out : Bytes} {n : ℕ} → Begins st l.first l.second o path out (Ok n) → (u : Store) → u ≡ cut st → (to : Outputs) (r : ℕ) → Does (f bound (names (take n out))) s u l.outputs to r
+      → Done l st st to r
+  done-asked b u e to r d = done_at b u st to r d (subst (λ (x : Store). Returned st x st) (sym e) (not_written st)) (begins-passes b).2
 
 -- and both working buffers are cleared
-pub answers : {l : Lent} {st after : Store} {to : Outputs} {r : ℕ} → Done l st after to r → (first second : Bytes) → first ≡ cleared l.first → second ≡ cleared l.second → Answers l st after to first second r
-answers d first second a b = record { passing = d.passing; broken = d.broken; first_cleared = a; second_cleared = b }
+pub answers : {l : Lent} {st after : Store} {to : Outputs} {r q : ℕ} → Done l st after to r → {first second : Bytes} → first ≡ cleared l.first → second ≡ cleared l.second → q ≡ r
+    → Answers l st after to first second q
+answers {l = l} {st = st} {after = after} {to = to} d a b e = subst (Answers l st after to _ _) (sym e) (record { passing = d.passing; broken = d.broken; first_cleared = a; second_cleared = b })

@@ -13,6 +13,7 @@ use Rattle.text.specs.Utf8.{Bytes}
 use Rattle.model.proofs.Alike.States.{alike_refl}
 use Rattle.model.specs.Rules.{time_ok}
 use Rattle.model.specs.Alike.{Alike}
+use Rattle.model.specs.Calls.States.{State}
 use Rattle.layout.specs.Numbers.{word_count, most_at, room_at, extent_at, paths_bytes}
 use Rattle.layout.specs.Store.{Store, lent, most, room, extent, slots_for, state, core, spare}
 use Rattle.layout.specs.Lawful.{Lawful, Long, Passes, Sized}
@@ -21,11 +22,10 @@ use Rattle.layout.proofs.Edited.Shapes.{lawful-shape}
 use Rattle.layout.proofs.Sizes.{sized-cut}
 use Rattle.edit_room.specs.Extents.{trim}
 use Rattle.store.specs.Shows.{Shows}
-
--- with room for the words of all slots
-abbrev pub cut : Store → Store
-cut st =
-    record { words = take word_count st.words; records = take (most st) st.records; heads = take (slots_for (most st)) st.heads; times = take (4 * slots_for (most st)) st.times; paths = take paths_bytes st.paths; bytes = take (room st) st.bytes }
+use Rattle.layout.specs.declared.slices.Slices.{Slices}
+use Rattle.layout.specs.declared.slices.Tree.{Tree}
+use Rattle.layout.specs.Lent.{◌∘◌, lent_by, with_tree, with_times}
+use Rattle.op.specs.Parts.{cut, tree_of}
 
 -- a word of the state stands in the part
 word_in : (ws : List ℕ) (i : ℕ) → i + 1 ≤ 102 → get_or (take word_count ws) i 0 ≡ get_or ws i 0
@@ -61,6 +61,20 @@ module _ (st : Store) (p : Passes st) where
   -- the limits are low
   pub limits : (most st ≤ 4096) × (room st ≤ 1048576)
   limits = (omega (arith, p.1.entry_limit.1, word_in st.words most_at (omega arith)), omega (arith, p.1.byte_limit.1, word_in st.words room_at (omega arith)))
+
+-- ---- slices that are lent together
+
+-- a store that is another shows what that shows
+pub shows_as : {u v : Store} {s : State} → u ≡ v → Shows v s → Shows u s
+shows_as {s = s} e h = subst (λ (x : Store). Shows x s) (sym e) h
+
+module _ (u : Slices) {t : Tree} (e : t ≡ tree_of u) where
+  -- with those that hold the tree lent as one
+  pub with_its_tree : with_tree t (lent_by u) ≡ lent_by u
+  with_its_tree = ap (λ (k : Tree). with_tree k (lent_by u)) e
+
+  pub with-times-too : (with_tree t ∘ with_times u.times.now) (lent_by u) ≡ lent_by u
+  with-times-too = ap (λ (k : Tree). (with_tree k ∘ with_times u.times.now) (lent_by u)) e
 
 -- ---- slices that come back
 

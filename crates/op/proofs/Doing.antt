@@ -22,6 +22,9 @@ use Rattle.model.proofs.Alike.States.{alike-used}
 use Rattle.model.proofs.Demand.Keeping.{kept_all}
 use Rattle.model.proofs.Space.Room.{room-settles, decided_no}
 use Rattle.model.proofs.Space.States.{Uses}
+use Rattle.std.specs.Prelude.{Result, Err}
+use Rattle.refusal.specs.Numbers.{number_of, answered}
+use Rattle.refusal.specs.declared.Refusal.{Refusal}
 use Rattle.layout.specs.Store.{Store, state, core}
 use Rattle.layout.specs.Lawful.{Lawful, Passes, Sized}
 use Rattle.layout.specs.Answers.{Lent, call_of, read_back}
@@ -30,7 +33,8 @@ use Rattle.layout.proofs.Used.{entries-used, bytes-used}
 use Rattle.edit_room.specs.Extents.{trim}
 use Rattle.store.specs.Shows.{Shows}
 use Rattle.op.specs.Doing.{settled, Does, Done}
-use Rattle.op.proofs.Cutting.{cut, shows-cut, Returned, not_written, core-now, long-now, behind-now}
+use Rattle.op.specs.Parts.{cut}
+use Rattle.op.proofs.Cutting.{shows-cut, Returned, not_written, core-now, long-now, behind-now}
 
 -- ---- within the limits
 
@@ -85,6 +89,14 @@ module _ (p : Prog Reply) (s : State) where
       by_outcome st o o r (outcome (refusal r) s)
       (ap (settle s) e ∙ room-settles s a v grown freed more u ∙ decided_no (room_for s more grown freed) s (outcome (accepted a) (state_of s v)) (λ y. z (x ∙ y)) ∙ ap (λ (k : ℕ). outcome (refusal k) s) (sym x))
       refl refl h
+
+-- the same store
+pub does-left : {p : Prog Reply} {s : State} {u v : Store} {o after : Outputs} {r : ℕ} → u ≡ v → Does p s u o after r → Does p s v o after r
+does-left {p = p} {s = s} {o = o} {after = after} {r = r} e d = subst (λ (x : Store). Does p s x o after r) e d
+
+-- a refusal that is passed on
+pub does-err : {p : Prog Reply} {s : State} {u : Store} {o after : Outputs} {r : Result Unit Refusal} {e : Refusal} → r ≡ Err e → Does p s u o after (number_of e) → Does p s u o after (answered r)
+does-err {p = p} {s = s} {u = u} {o = o} {after = after} x d = subst (λ (k : Result Unit Refusal). Does p s u o after (answered k)) (sym x) d
 
 -- ---- the whole call
 

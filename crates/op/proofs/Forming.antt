@@ -4,8 +4,7 @@
 use mathlib.Core.Path.{◌≡◌, ◌∙◌, subst}
 use Rattle.text.specs.Utf8.{Bytes}
 use Rattle.path.specs.Path.{normal, absolute, body, path_fits}
-use Rattle.path.specs.Answer.{Forms}
-use Rattle.path.specs.declared.answer.Formed.{Formed}
+use Rattle.path.specs.Answer.{Formed, Forms}
 use Rattle.path.proofs.Allowed.{formed_is, absolute-shown}
 use Rattle.path.proofs.Every.{Every}
 use Rattle.path.proofs.Laws.{Shown, names-shown}

@@ -11,25 +11,25 @@ use lib.ListN.{length, take}
 use borrow.Author.Tests.{le-leb, lt-leb}
 use Rattle.text.specs.Utf8.{Bytes}
 use Rattle.path.specs.Path.{names}
-use Rattle.path.specs.declared.answer.Formed.{Formed}
-use Rattle.path.specs.declared.answer.Formed.TheVariants.{Text, TooLong}
+use Rattle.path.specs.declared.answer.TooLong.{TooLong}
 use Rattle.model.specs.Tree.{Path, dir, file, link, Entries, links_in}
 use Rattle.model.specs.Prog.{World, kind?, Prog, ◌>>=◌, Out, refused, run}
 use Rattle.model.specs.Operations.Steps as model
 use Rattle.model.specs.Operations.Steps.{Reply, to_absolute, on_path}
 use Rattle.model.specs.Calls.States.{State, world_of}
 use Rattle.model.proofs.Running.{then, run_bind}
+use Rattle.std.specs.Prelude.{Result, Ok, Err}
+use Rattle.refusal.specs.Numbers.{number_of}
+use Rattle.refusal.specs.declared.Refusal.{Refusal}
+use Rattle.layout.specs.Kinds.{kind_from}
 use Rattle.layout.specs.Store.{Store}
 use Rattle.layout.specs.Numbers.{most_entries}
-use Rattle.ask_find.specs.declared.Spot.{Spot}
-use Rattle.ask_entry.specs.Reads.{kind_from}
 use Rattle.store.specs.Shows.{Shows, Stands, Asked, whole, says}
-use Rattle.walk.specs.declared.leads.Led.{Led}
-use Rattle.walk.specs.declared.leads.Led.TheVariants as led
+use Rattle.walk.specs.declared.There as led
 use Rattle.walk.specs.declared.lookup.Looked.{Looked}
 use Rattle.walk.specs.Lookups.{Looks}
 use Rattle.walk.specs.Meets.{Plain}
-use Rattle.walk.specs.Leads.{leads_to, LedPlaced, Leads}
+use Rattle.walk.specs.Leads.{Leads}
 use Rattle.op.specs.Testing.{AbsoluteIs}
 use Rattle.op.proofs.Doing.{shown-fits}
 
@@ -51,10 +51,10 @@ pub asked_whole : (st : Store) (s : State) → Shows st s → Asked st s most_en
 asked_whole st s h = whole (omega (arith, h.roomy.lawful.counted, h.roomy.lawful.entry_limit.1))
 
 -- lookups with one bound and another that is the same
-pub same_leads : {m n : ℕ} {st : Store} {s : State} {w : World} {text out : Bytes} {r : Led} → m ≡ n → Leads (model.leads m) st s w text out r → Leads (model.leads n) st s w text out r
+pub same_leads : {m n : ℕ} {st : Store} {s : State} {w : World} {text out : Bytes} {r : Result led.There Refusal} → m ≡ n → Leads (model.leads m) st s w text out r → Leads (model.leads n) st s w text out r
 same_leads {st = st} {s = s} {w = w} {text = text} {out = out} {r = r} e l = subst (λ (b : ℕ). Leads (model.leads b) st s w text out r) e l
 
-pub same_looks : {h m n : ℕ} {st : Store} {s : State} {w : World} {text out : Bytes} {r : Looked} → m ≡ n → Looks st s w h m text out r → Looks st s w h n text out r
+pub same_looks : {h m n : ℕ} {st : Store} {s : State} {w : World} {text out : Bytes} {r : Result Looked Refusal} → m ≡ n → Looks st s w h m text out r → Looks st s w h n text out r
 same_looks {h = h} {st = st} {s = s} {w = w} {text = text} {out = out} {r = r} e l = subst (λ (b : ℕ). Looks st s w h b text out r) e l
 
 -- ---- rows
@@ -67,49 +67,40 @@ row_fits n h = le-leb 1 (n / 7) (omega arith)
 
 -- ---- an entry that is there
 
-module _ (step : Path → Prog model.There) (st : Store) (s : State) (text out : Bytes) (r : Led) (l : Leads step st s (world_of s) text out r) where
+module _ {step : Path → Prog model.There} {st : Store} {s : State} {text out : Bytes} {t : led.There} (l : Leads step st s (world_of s) text out (Ok t)) where
   -- what was found
-  abbrev pub there : (k n : ℕ) → model.There
-  there k n = record { path = names (take n out); kind = kind_from k; links = l.links }
+  abbrev pub there : model.There
+  there = record { path = names (take t.len out); kind = kind_from t.kind; links = l.links }
 
-  pub led_there : {A : Type 0} (spot : Spot) (k n c : ℕ) → r ≡ led.There spot k n c → (f : model.There → Prog A)
-      → run (step (names text) >>= f) (world_of s) ≡ run (f (there k n)) (world_of s)
-  led_there spot k n c e f =
-      run_bind (step (names text)) f (world_of s) ∙ ap (λ (o : Out model.There). then o (λ a u. run (f a) u)) (l.answer ∙ ap (leads_to (world_of s) l.links out) e)
-
-  pub led-refused : {A : Type 0} (n : ℕ) → r ≡ led.Refused n → (f : model.There → Prog A) → run (step (names text) >>= f) (world_of s) ≡ refused n
-  led-refused n e f =
-      run_bind (step (names text)) f (world_of s) ∙ ap (λ (o : Out model.There). then o (λ a u. run (f a) u)) (l.answer ∙ ap (leads_to (world_of s) l.links out) e)
-
-  led-placed : (spot : Spot) (k n c : ℕ) → r ≡ led.There spot k n c → LedPlaced st s (world_of s) l.links out (led.There spot k n c)
-  led-placed spot k n c e = subst (LedPlaced st s (world_of s) l.links out) e l.place
+  pub led_there : {A : Type 0} (f : model.There → Prog A) → run (step (names text) >>= f) (world_of s) ≡ run (f there) (world_of s)
+  led_there f = run_bind (step (names text)) f (world_of s) ∙ ap (λ (o : Out model.There). then o (λ a u. run (f a) u)) l.answer
 
   -- how many links led there
-  pub led-count : (spot : Spot) (k n c : ℕ) → r ≡ led.There spot k n c → length l.links ≡ c
-  led-count spot k n c e = (led-placed spot k n c e).0.counted
+  pub led-count : length l.links ≡ t.links
+  led-count = l.place.0.counted
 
   -- where it stands, and its kind
-  pub led-stands : (spot : Spot) (k n c : ℕ) → r ≡ led.There spot k n c → Stands st spot (names (take n out))
-  led-stands spot k n c e = (led-placed spot k n c e).1.at
+  pub led-stands : Stands st t.spot (names (take t.len out))
+  led-stands = l.place.1.at
 
-  pub led-kind : (spot : Spot) (k n c : ℕ) → r ≡ led.There spot k n c → says (kind? (names (take n out))) s ≡ some (kind_from k)
-  led-kind spot k n c e = (led-placed spot k n c e).2
+  pub led-kind : says (kind? (names (take t.len out))) s ≡ some (kind_from t.kind)
+  led-kind = l.place.2
 
   -- its path in front of the buffer
-  pub led-front : (spot : Spot) (k n c : ℕ) → r ≡ led.There spot k n c → (n ≤ 1024) × Plain (take n out)
-  led-front spot k n c e = let f = (led-placed spot k n c e).0 in (f.fits, f.plain)
+  pub led-front : (t.len ≤ 1024) × Plain (take t.len out)
+  led-front = (l.place.0.fits, l.place.0.plain)
+
+pub led-refused : {step : Path → Prog model.There} {st : Store} {s : State} {text out : Bytes} {e : Refusal} → Leads step st s (world_of s) text out (Err e)
+    → {A : Type 0} (f : model.There → Prog A) → run (step (names text) >>= f) (world_of s) ≡ refused (number_of e)
+led-refused {step = step} {s = s} {text = text} l f = run_bind (step (names text)) f (world_of s) ∙ ap (λ (o : Out model.There). then o (λ a u. run (f a) u)) l.answer
 
 -- ---- a given path
 
-module _ (s : State) (path out : Bytes) (r : Formed) (a : AbsoluteIs s path out r) (f : Path → Prog Reply) where
-  pub path-formed : (n : ℕ) → r ≡ Text n → run (on_path path f) (world_of s) ≡ run (f (names (take n out))) (world_of s)
+module _ {s : State} {path out : Bytes} (f : Path → Prog Reply) where
+  pub path-formed : {n : ℕ} → AbsoluteIs s path out (Ok n) → run (on_path path f) (world_of s) ≡ run (f (names (take n out))) (world_of s)
   unfolding on_path
-  path-formed n e =
-      let y = subst (AbsoluteIs s path out) e a in
-      run_bind (to_absolute path) f (world_of s) ∙ ap (λ (o : Out Path). then o (λ p u. run (f p) u)) y.answer
+  path-formed a = run_bind (to_absolute path) f (world_of s) ∙ ap (λ (o : Out Path). then o (λ p u. run (f p) u)) a.answer
 
-  pub path-long : r ≡ TooLong → run (on_path path f) (world_of s) ≡ refused 6
+  pub path-long : {e : TooLong} → AbsoluteIs s path out (Err e) → run (on_path path f) (world_of s) ≡ refused 6
   unfolding on_path
-  path-long e =
-      let y = subst (AbsoluteIs s path out) e a in
-      run_bind (to_absolute path) f (world_of s) ∙ ap (λ (o : Out Path). then o (λ p u. run (f p) u)) y.answer
+  path-long a = run_bind (to_absolute path) f (world_of s) ∙ ap (λ (o : Out Path). then o (λ p u. run (f p) u)) a.answer

@@ -1,12 +1,11 @@
 pub mod Screening
 pub mod Forming
 pub mod Cutting
-pub mod Rows
 pub mod Doing
 pub mod Leading
 pub mod Beginning
 pub mod Calling
+pub mod Numbering
 pub mod Naming
 pub mod Writing
-pub mod Numbering
 pub mod Telling

@@ -19,41 +19,37 @@ use Rattle.model.specs.Calls.Calling.{Op, set_umask, close_number, read_number, 
 use Rattle.model.specs.Calls.Calling as model
 use Rattle.model.specs.Calls.Performing.{bit, given_if, program}
 use Rattle.model.specs.Buffers.{Outputs}
+use Rattle.std.specs.Prelude.{List, Some, None, Ok, Err}
+use Rattle.refusal.specs.Numbers.{number_of}
+use Rattle.refusal.specs.declared.Refusal.{Refusal}
 use Rattle.layout.specs.Store.{Store, core}
 use Rattle.layout.specs.Lawful.{Passes, Sized}
-use Rattle.layout.specs.Answers.{Lent, call_of, read_back}
+use Rattle.layout.specs.Answers.{Lent, call_of, read_back, Answers}
 use Rattle.store.specs.Shows.{says}
-use Rattle.op.specs.declared.ready.Work.{Work}
-use Rattle.op.specs.declared.ready.Work.TheVariants as work
 use Rattle.op.specs.declared.ready.Number.{Number}
 use Rattle.op.specs.declared.ready.Number.TheVariants as number
 use Rattle.op.specs.Doing.{Does, Done}
-use Rattle.op.specs.Testing.{work_of, walks, number_of, screen_of, Tested, broken, passing}
+use Rattle.op.specs.Lending.{call_with}
+use Rattle.op.specs.Testing.{Work, work_of, walks, given_by, screen_of, Tested, broken, passing}
 use Rattle.op.proofs.Cutting.{Returned}
 use Rattle.op.proofs.Doing.{done-broken, done-screened, done-does}
-use Rattle.op.proofs.Beginning.{empty-text, empty-lengths}
-use Rattle.op.proofs.Calling.{same_run}
+use Rattle.op.proofs.Calling.{same_run, not-zero, answers}
 
 -- what such a call is given
 abbrev pub untold : Work → Number → Given
-untold w m = record { walks = walks w; texts = []; number = number_of m }
-
--- empty texts change nothing
-no_text : (w : Work) (m : Number) (s : State) → screen_of w [] [] m s ≡ screen (work_of w) (untold w m) s.opens
-unfolding screen all
-no_text w m s = rw (empty-text, empty-lengths) refl
+untold w m = given_by w [] m
 
 -- tests that pass
-pub tested-passes : {st : Store} {a b : Bytes} {w : Work} {m : Number} {r : ℕ} → Tested st w a b m r → r ≡ 0 → Passes st
-tested-passes (broken k e) z = absurd (omega (arith, z, e))
-tested-passes (passing p e) z = p
+module _ {st : Store} {w : Work} {ts : List Bytes} {m : Number} where
+  tested : Tested st w ts m (Ok tt) → Passes st × (0 ≡ screen_of w ts m (read_back st))
+  tested (broken k e) = absurd (let z : ◌≡◌ {A = ℕ} 0 1 = cc in omega arith)
+  tested (passing p e) = (p, e)
 
-tested-zero : {st : Store} {w : Work} {m : Number} {r : ℕ} → Tested st w [] [] m r → r ≡ 0 → 0 ≡ screen (work_of w) (untold w m) (read_back st).opens
-tested-zero (broken k e) z = absurd (omega (arith, z, e))
-tested-zero {st = st} {w = w} {m = m} (passing p e) z = sym z ∙ e ∙ no_text w m (read_back st)
+  pub tested-passes : Tested st w ts m (Ok tt) → Passes st
+  tested-passes t = (tested t).0
 
 -- a number that passes is open, and the working buffers have room for a path
-module _ (s : State) (w : Work) (n : ℕ) (h : 0 ≡ screen (work_of w) (untold w (number.Opened n)) s.opens) where
+module _ (s : State) (w : Work) (n : ℕ) (h : 0 ≡ screen_of w [] (number.Opened n) s) where
   fit : (work_fits (walks w) (work_of w) ≡ true) × (number_fits (opened n) s.opens ≡ true)
   unfolding screen all
   fit = go (work_fits (walks w) (work_of w)) (number_fits (opened n) s.opens) h
@@ -78,14 +74,14 @@ module _ (s : State) (w : Work) (n : ℕ) (h : 0 ≡ screen (work_of w) (untold 
           (record { pos = o.pos; kept = o.kept }, ap (λ (v : Option Open). on_some {B = Position} v (λ q. some (record { pos = q.pos; kept = q.kept }))) x)
 
 -- so it is after tests that pass
-pub tested-open : {st : Store} {w : Work} {n r : ℕ} → Tested st w [] [] (number.Opened n) r → r ≡ 0 → (o : Position) × (says (open? n) (read_back st) ≡ some o)
-tested-open {st = st} {w = w} {n = n} t z = open_told (read_back st) w n (tested-zero t z)
+pub tested-open : {st : Store} {w : Work} {n : ℕ} → Tested st w [] (number.Opened n) (Ok tt) → (o : Position) × (says (open? n) (read_back st) ≡ some o)
+tested-open {st = st} {w = w} {n = n} t = open_told (read_back st) w n (tested t).1
 
-pub tested-room : {st : Store} {a b n r : ℕ} → Tested st (work.Lent a b) [] [] (number.Opened n) r → r ≡ 0 → 1024 ≤ a
-tested-room {st = st} {a = a} {b = b} {n = n} t z = go (leb 1024 a) refl (fit (read_back st) (work.Lent a b) n (tested-zero t z)).0
+pub tested-room : {st : Store} {w : ℕ × ℕ} {n : ℕ} → Tested st (Some w) [] (number.Opened n) (Ok tt) → 1024 ≤ w.0
+tested-room {st = st} {w = w} {n = n} t = go (leb 1024 w.0) refl (fit (read_back st) (Some w) n (tested t).1).0
   where
-    go : (x : Bool) → leb 1024 a ≡ x → x && leb 1024 b ≡ true → 1024 ≤ a
-    go true e f = leb-true 1024 a e
+    go : (x : Bool) → leb 1024 w.0 ≡ x → x && leb 1024 w.1 ≡ true → 1024 ≤ w.0
+    go true e f = leb-true 1024 w.0 e
     go false e f = absurd (let z : ◌≡◌ {A = ℕ} 0 1 = cc in omega arith)
 
 -- ---- the calls
@@ -95,58 +91,60 @@ pub record Numbers (c : Op) (w : Work) (m : Number) (p : ℕ → Prog Reply) : T
   pub given : given_to c ≡ untold w m
   pub does : (bound : ℕ) → program bound c ≡ p bound
 
-pub umask-numbers : (mask : ℕ) → Numbers (set_umask mask) work.NotLent number.NotGiven (λ b. umask_to mask)
+pub umask-numbers : (mask : ℕ) → Numbers (set_umask mask) None number.NotGiven (λ b. umask_to mask)
 unfolding given_to program
 umask-numbers mask = record { given = refl; does = λ b. refl }
 
-pub close-numbers : (n : ℕ) → Numbers (close_number n) work.NotLent (number.Opened n) (λ b. close_on n)
+pub close-numbers : (n : ℕ) → Numbers (close_number n) None (number.Opened n) (λ b. close_on n)
 unfolding given_to program
 close-numbers n = record { given = refl; does = λ b. refl }
 
-pub read-numbers : (n lent : ℕ) → Numbers (read_number n lent) work.NotLent (number.Opened n) (λ b. read_on n lent)
+pub read-numbers : (n lent : ℕ) → Numbers (read_number n lent) None (number.Opened n) (λ b. read_on n lent)
 unfolding given_to program
 read-numbers n lent = record { given = refl; does = λ b. refl }
 
-pub seek-numbers : (n origin offset : ℕ) → Numbers (seek_number n origin offset) work.NotLent (number.Opened n) (λ b. seek_on n origin offset)
+pub seek-numbers : (n origin offset : ℕ) → Numbers (seek_number n origin offset) None (number.Opened n) (λ b. seek_on n origin offset)
 unfolding given_to program
 seek-numbers n origin offset = record { given = refl; does = λ b. refl }
 
-pub length-numbers : (n size : ℕ) → Numbers (set_length n size) work.NotLent (number.Opened n) (λ b. set_length_on n size)
+pub length-numbers : (n size : ℕ) → Numbers (set_length n size) None (number.Opened n) (λ b. set_length_on n size)
 unfolding given_to program
 length-numbers n size = record { given = refl; does = λ b. refl }
 
-pub mode-numbers : (n mode : ℕ) → Numbers (set_mode_number n mode) work.NotLent (number.Opened n) (λ b. set_mode_on n mode)
+pub mode-numbers : (n mode : ℕ) → Numbers (set_mode_number n mode) None (number.Opened n) (λ b. set_mode_on n mode)
 unfolding given_to program
 mode-numbers n mode = record { given = refl; does = λ b. refl }
 
-pub times-numbers : (n flags : ℕ) (a m : Time) → Numbers (set_times_number n flags a m) work.NotLent (number.Opened n) (λ b. set_times_on n (given_if (bit flags 1) a) (given_if (bit flags 2) m))
+pub times-numbers : (n flags : ℕ) (a m : Time) → Numbers (set_times_number n flags a m) None (number.Opened n) (λ b. set_times_on n (given_if (bit flags 1) a) (given_if (bit flags 2) m))
 unfolding given_to program
 times-numbers n flags a m = record { given = refl; does = λ b. refl }
 
-pub metadata-numbers : (n rows a b : ℕ) → Numbers (metadata_number n rows) (work.Lent a b) (number.Opened n) (λ k. metadata_on k n rows)
+pub metadata-numbers : (n rows a b : ℕ) → Numbers (metadata_number n rows) (Some (a, b)) (number.Opened n) (λ k. metadata_on k n rows)
 unfolding given_to program
 metadata-numbers n rows a b = record { given = refl; does = λ k. refl }
 
-module _ (l : Lent) (st : Store) (w : Work) (m : Number) (p : ℕ → Prog Reply) (k : Numbers l.op w m p) (x : work_of w ≡ (call_of l).work) (r : ℕ) (t : Tested st w [] [] m r) where
+module _ (l : Lent) (st : Store) {w : Work} {m : Number} {p : ℕ → Prog Reply} (k : Numbers l.op w m p) (x : work_of w ≡ (call_of l).work) where
   abbrev s : State
   s = read_back st
 
-  tests : screen_of w [] [] m s ≡ screen (call_of l).work (given_to l.op) s.opens
-  tests = no_text w m s ∙ ap (λ (v : Given). screen (work_of w) v s.opens) (sym k.given) ∙ ap (λ (v : model.Work). screen v (given_to l.op) s.opens) x
+  tests : screen_of w [] m s ≡ screen (call_of l).work (given_to l.op) s.opens
+  tests = ap (λ (v : Given). screen (work_of w) v s.opens) (sym k.given) ∙ ap (λ (v : model.Work). screen v (given_to l.op) s.opens) x
 
   -- 1, 14 or 4
-  pub number-refused : (r ≡ 0 → ⊥) → Done l st st l.outputs r
-  number-refused h = go t
-    where
-      go : Tested st w [] [] m r → Done l st st l.outputs r
-      go (broken b e) = done-broken l st b r e
-      go (passing y e) = done-screened l st y r h (e ∙ tests)
+  pub number-refused : {e : Refusal} → Tested st w [] m (Err e) → Done l st st l.outputs (number_of e)
+  number-refused {e = e} (broken b y) = done-broken l st b (number_of e) (cc)
+  number-refused {e = e} (passing y z) = done-screened l st y (number_of e) (not-zero e) (z ∙ tests)
 
   -- what the operation comes to
-  pub number-done : (z : r ≡ 0) → (u after : Store) (out : Outputs) (q : ℕ) → Does (p (links_in s.tree)) s u l.outputs out q → Returned st u after → Sized (core after) → Done l st after out q
-  number-done z u after out q d b y =
-      done-does l st (tested-passes t z) (zero t) u after out q (same_run (ap (λ (v : Prog Reply). run v (world_of s)) (k.does (links_in s.tree))) d) b y
-    where
-      zero : Tested st w [] [] m r → 0 ≡ screen (call_of l).work (given_to l.op) s.opens
-      zero (broken b e) = absurd (omega (arith, z, e))
-      zero (passing y e) = sym z ∙ e ∙ tests
+  pub number-done : Tested st w [] m (Ok tt) → (u after : Store) (out : Outputs) (q : ℕ) → Does (p (links_in s.tree)) s u l.outputs out q → Returned st u after → Sized (core after) → Done l st after out q
+  number-done t u after out q d b y =
+      done-does l st (tested-passes t) ((tested t).1 ∙ tests) u after out q (same_run (ap (λ (v : Prog Reply). run v (world_of s)) (k.does (links_in s.tree))) d) b y
+
+-- the same of a call that is lent no working buffers
+module _ {c : Op} {o : Outputs} (st : Store) {m : Number} {p : ℕ → Prog Reply} (k : Numbers c None m p) where
+  pub answers-refused : {e : Refusal} → Tested st None [] m (Err e) → Answers (call_with c o [] []) st st o [] [] (number_of e)
+  answers-refused t = answers (number-refused (call_with c o [] []) st k refl t) refl refl refl
+
+  pub answers-done : Tested st None [] m (Ok tt) → {u after : Store} {to : Outputs} {q r : ℕ} → Does (p (links_in (read_back st).tree)) (read_back st) u o to q → Returned st u after → Sized (core after) → r ≡ q
+      → Answers (call_with c o [] []) st after to [] [] r
+  answers-done t d b y e = answers (number-done (call_with c o [] []) st k refl t _ _ _ _ d b y) refl refl e

@@ -1,16 +1,17 @@
 // Bytes as an answer (refusal 14).
+ghost use Rattle.refusal.specs.Numbers.{answered};
 ghost use Rattle.op.specs.Lending.{PutIs};
 
-use blocks::copy_into;
+use refusal::Refusal;
 
-// Writes s to the front of the buffer and its length to the number; or answers 14, and writes nothing.
-pub fn put_bytes(out: &mut [u8], number: &mut u64, s: &[u8]) -> u32
-    ensures { PutIs s.now out.old number.old out.new number.new result }
+// Writes s to the front of the buffer and its length to the number; or refuses, and writes nothing.
+pub fn put_bytes(out: &mut [u8], number: &mut u64, s: &[u8]) -> Result<(), Refusal>
+    ensures { PutIs s.now out.old number.old out.new number.new (answered result) }
 {
     if out.len() < s.len() {
-        return 14;
+        return Err(Refusal::ShortBuffer);
     }
-    copy_into(out, 0, s);
+    out[..s.len()].copy_from_slice(s);
     *number = s.len() as u64;
-    0
+    Ok(())
 }

@@ -5,66 +5,45 @@ ghost use Rattle.model.specs.Tree.{links_in};
 ghost use Rattle.model.specs.Operations.Steps as steps;
 ghost use Rattle.model.specs.Calls.States.{world_of};
 ghost use Rattle.layout.specs.Numbers.{most_entries};
-ghost use Rattle.layout.specs.Lent.{◌∘◌, with_words, with_records, with_heads, with_bytes, still};
-ghost use Rattle.layout.specs.Lent.{◌&◌};
+ghost use Rattle.layout.specs.Lent.{with_tree, still};
 ghost use Rattle.store.specs.Shows.{Of, Some};
 ghost use Rattle.walk.specs.Lookups.{Walks, Looks};
 ghost use Rattle.walk.specs.Leads.{Leads};
-ghost use Rattle.op.specs.Testing.{PathIn};
+ghost use Rattle.walk.specs.Meets.{PathIn};
 
 use layout::MOST_ENTRIES;
-use walk::leads::Led;
+use layout::slices::Tree;
+use refusal::Refusal;
+use walk::There;
 use walk::lookup::{Looked, Walked};
 
 // No record has this number.
 const NONE: usize = MOST_ENTRIES as usize;
 
 // The entry that the path leads to.
-pub fn leads(
-    words: &[u64],
-    records: &[u64],
-    heads: &[u64],
-    bytes: &[u8],
-    work: &mut [u8],
-    len: usize,
-) -> Led
-    requires { Some (with_words words.now ∘ with_records records.now ∘ with_heads heads.now ∘ with_bytes bytes.now) × PathIn work.old len }
-    ensures { Of (still (with_words words.now ∘ with_records records.now ∘ with_heads heads.now ∘ with_bytes bytes.now))
+pub fn leads(tree: Tree, work: &mut [u8], len: usize) -> Result<There, Refusal>
+    requires { Some (with_tree tree) × PathIn work.old len }
+    ensures { Of (still (with_tree tree.entry))
         (λ st s. Leads (steps.leads (links_in s.tree)) st s (world_of s) (take len work.old) work.new result) }
 {
-    let bound = store::space::links(words, records, heads);
-    walk::leads::leads(words, records, heads, bytes, work, len, NONE, bound)
+    let bound = store::space::links(tree.words, tree.records, tree.heads);
+    walk::leads::leads(tree, work, len, NONE, bound)
 }
 
 // What the path comes to, there or not.
-pub fn lookup(
-    words: &[u64],
-    records: &[u64],
-    heads: &[u64],
-    bytes: &[u8],
-    work: &mut [u8],
-    len: usize,
-) -> Looked
-    requires { Some (with_words words.now ∘ with_records records.now ∘ with_heads heads.now ∘ with_bytes bytes.now) × PathIn work.old len }
-    ensures { Of (still (with_words words.now ∘ with_records records.now ∘ with_heads heads.now ∘ with_bytes bytes.now))
+pub fn lookup(tree: Tree, work: &mut [u8], len: usize) -> Result<Looked, Refusal>
+    requires { Some (with_tree tree) × PathIn work.old len }
+    ensures { Of (still (with_tree tree.entry))
         (λ st s. Looks st s (world_of s) most_entries (links_in s.tree) (take len work.old) work.new result) }
 {
-    let bound = store::space::links(words, records, heads);
-    walk::lookup::lookup_entry_detail(words, records, heads, bytes, work, len, NONE, bound)
+    let bound = store::space::links(tree.words, tree.records, tree.heads);
+    walk::lookup::lookup_entry_detail(tree, work, len, NONE, bound)
 }
 
 // The same, with a last link not followed.
-pub fn no_follow(
-    words: &[u64],
-    records: &[u64],
-    heads: &[u64],
-    bytes: &[u8],
-    work: &mut [u8],
-    len: usize,
-) -> Walked
-    requires { Some (with_words words.now ∘ with_records records.now ∘ with_heads heads.now ∘ with_bytes bytes.now) × PathIn work.old len }
-    ensures { Of (still (with_words words.now ∘ with_records records.now ∘ with_heads heads.now ∘ with_bytes bytes.now))
-        (λ st s. Walks st s (world_of s) most_entries (take len work.old) work.new result) }
+pub fn no_follow(tree: Tree, work: &mut [u8], len: usize) -> Result<Walked, Refusal>
+    requires { Some (with_tree tree) × PathIn work.old len }
+    ensures { Of (still (with_tree tree.entry)) (λ st s. Walks st s (world_of s) most_entries (take len work.old) work.new result) }
 {
-    walk::lookup::lookup_entry_detail_no_follow(words, records, heads, bytes, work, len, NONE)
+    walk::lookup::lookup_entry_detail_no_follow(tree, work, len, NONE)
 }

@@ -1,13 +1,17 @@
-// A working buffer is left all zero.
+// How a call ends that is lent working buffers.
 ghost use Rattle.std.specs.Prelude.{◌≡◌};
 ghost use Rattle.model.specs.Buffers.{cleared};
+ghost use Rattle.refusal.specs.Numbers.{answered};
 
-pub fn clear(s: &mut [u8])
-    ensures { s.new ≡ cleared s.old }
+use refusal::{Refusal, answer};
+
+// What it answers; both are left all zero.
+pub fn finish(r: Result<(), Refusal>, first: &mut [u8], second: &mut [u8]) -> u32
+    ensures first { first.new ≡ cleared first.old }
+    ensures second { second.new ≡ cleared second.old }
+    ensures number { result ≡ answered r }
 {
-    let mut i = 0;
-    while i < s.len() {
-        s[i] = 0;
-        i += 1;
-    }
+    first.fill(0);
+    second.fill(0);
+    answer(r)
 }

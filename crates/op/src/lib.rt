@@ -6,5 +6,6 @@ pub mod answer;
 pub mod at;
 pub mod begin;
 pub mod clear;
+pub mod parts;
 pub mod ready;
 pub mod record;

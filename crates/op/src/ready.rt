@@ -1,46 +1,36 @@
 // What is tested before a call does anything.
-ghost use Rattle.std.specs.Prelude.{[], ◌∷◌, ◌≡◌};
+ghost use Rattle.std.specs.Prelude.{◌≡◌};
 ghost use Rattle.text.specs.Utf8.{text};
 ghost use Rattle.path.specs.Path.{lengths_ok};
-ghost use Rattle.model.specs.Refusals.{bad_text, text_too_long};
 ghost use Rattle.model.specs.Tree.{open_of};
 ghost use Rattle.model.specs.Operations.Steps.{is_some};
-ghost use Rattle.model.specs.Calls.Calling.{all, first_of, number_fits, work_fits};
-ghost use Rattle.layout.specs.Lent.{lends, still, with_words};
+ghost use Rattle.model.specs.Calls.Calling.{all, number_fits, work_fits};
+ghost use Rattle.refusal.specs.Numbers.{answered};
+ghost use Rattle.layout.specs.Lent.{lent_by, still, with_words};
 ghost use Rattle.store.specs.Shows.{Of};
-ghost use Rattle.op.specs.Testing.{walks, work_of, number_of, screen_of, Tested};
+ghost use Rattle.op.specs.Testing.{texts_of, walks, work_of, number_of, screen_of, Tested};
 
+use layout::slices::Slices;
 use layout::{FILE_NUMBERS, WORD_COUNT};
 use path::lengths::lengths_ok;
+use refusal::Refusal;
 use text::text_ok;
 
-// The working buffers that a call is lent, by their lengths.
-#[derive(Drop)]
-pub enum Work {
-    NotLent,
-    Lent(usize, usize),
-}
-
-// The file number that it is given, which is to be free or open.
-#[derive(Drop)]
+// The file number that a call is given, which is to be free or open.
+#[derive(Clone, Copy)]
 pub enum Number {
     NotGiven,
     Free(u32),
     Opened(u32),
 }
 
-// 14 of the working buffers: both have 1,024 bytes or more.
-fn work_fits(work: Work) -> bool
+// 14 of the working buffers, by their lengths where the call is lent them: both have 1,024 bytes or more.
+fn work_fits(work: Option<(usize, usize)>) -> bool
     ensures { result ≡ work_fits (walks work) (work_of work) }
 {
     match work {
-        Work::NotLent => true,
-        Work::Lent(first, second) => {
-            if first < 1024 {
-                return false;
-            }
-            1024 <= second
-        }
+        None => true,
+        Some((first, second)) => 1024 <= first && 1024 <= second,
     }
 }
 
@@ -48,87 +38,71 @@ fn work_fits(work: Work) -> bool
 fn is_open(words: &[u64], n: u32) -> bool
     ensures { Of (still (with_words words.now)) (λ _ s. result ≡ is_some (open_of s.opens n)) }
 {
-    match store::open(words, n as usize) {
-        store::Number::Closed => false,
-        store::Number::Open(_) => true,
-    }
+    store::open(words, n as usize).is_some()
 }
 
 // 4: a number above 31, in use at open, or not open elsewhere.
+#[tactic(auto, unfolding(model::specs::Calls::Calling::number_fits))]
 fn number_fits(words: &[u64], number: Number) -> bool
     ensures { Of (still (with_words words.now)) (λ _ s. result ≡ number_fits (number_of number) s.opens) }
 {
     match number {
         Number::NotGiven => true,
-        Number::Free(n) => {
-            if FILE_NUMBERS as u32 <= n {
-                return false;
-            }
-            !is_open(words, n)
-        }
-        Number::Opened(n) => {
-            if FILE_NUMBERS as u32 <= n {
-                return false;
-            }
-            is_open(words, n)
-        }
+        Number::Free(n) => n < FILE_NUMBERS as u32 && !is_open(words, n),
+        Number::Opened(n) => n < FILE_NUMBERS as u32 && is_open(words, n),
     }
 }
 
-// 2 of either text, then 3 of either.
-fn texts(a: &[u8], b: &[u8]) -> u32
-    ensures { result ≡ first_of (all text (a.now ∷ b.now ∷ [])) bad_text
-        (first_of (all lengths_ok (a.now ∷ b.now ∷ [])) text_too_long 0) }
+// 2: whether each of the texts is one.
+fn all_text(texts: &[&[u8]]) -> bool
+    ensures { result ≡ all text (texts_of texts.now) }
 {
-    if !text_ok(a) {
-        return 2;
-    }
-    if !text_ok(b) {
-        return 2;
-    }
-    if !lengths_ok(a) {
-        return 3;
-    }
-    if !lengths_ok(b) {
-        return 3;
-    }
-    0
+    texts.iter().all(|t| text_ok(t))
 }
 
-// The first of 14, 2, 3 and 4 that applies, or 0.
-fn screened(words: &[u64], work: Work, a: &[u8], b: &[u8], number: Number) -> u32
-    ensures { Of (still (with_words words.now)) (λ _ s. result ≡ screen_of work a.now b.now number s) }
+// 3: whether each of them, and each name in it, is short enough.
+fn all_short(texts: &[&[u8]]) -> bool
+    ensures { result ≡ all lengths_ok (texts_of texts.now) }
+{
+    texts.iter().all(|t| lengths_ok(t))
+}
+
+// The first of 14, 2, 3 and 4 that applies.
+#[tactic(auto, unfolding(model::specs::Calls::Calling::screen))]
+fn screened(
+    words: &[u64],
+    work: Option<(usize, usize)>,
+    texts: &[&[u8]],
+    number: Number,
+) -> Result<(), Refusal>
+    ensures { Of (still (with_words words.now)) (λ _ s. answered result ≡ screen_of work (texts_of texts.now) number s) }
 {
     if !work_fits(work) {
-        return 14;
+        return Err(Refusal::ShortBuffer);
     }
-    let r = texts(a, b);
-    if r != 0 {
-        return r;
+    if !all_text(texts) {
+        return Err(Refusal::BadText);
+    }
+    if !all_short(texts) {
+        return Err(Refusal::TextTooLong);
     }
     if !number_fits(words, number) {
-        return 4;
+        return Err(Refusal::BadNumber);
     }
-    0
+    Ok(())
 }
 
-// 1, 14, 2, 3, 4, or 0 where the call goes on. A call with one text or none gives empty ones for the others.
+// 1, or the first of 14, 2, 3 and 4 that applies, or nothing where the call goes on.
 pub fn ready(
-    words: &[u64],
-    records: &[u64],
-    heads: &[u64],
-    times: &[i64],
-    paths: &[u8],
-    bytes: &[u8],
-    work: Work,
-    a: &[u8],
-    b: &[u8],
+    lent: Slices,
+    work: Option<(usize, usize)>,
+    texts: &[&[u8]],
     number: Number,
-) -> u32
-    ensures { Tested (lends words.now records.now heads.now times.now paths.now bytes.now) work a.now b.now number result }
+) -> Result<(), Refusal>
+    ensures { Tested (lent_by lent.entry) work (texts_of texts.now) number result }
 {
-    if !lawful::store_ok(words, records, heads, times, paths, bytes) {
-        return 1;
+    if !lawful::store_ok(lent) {
+        return Err(Refusal::BadStore);
     }
-    screened(&words[..WORD_COUNT], work, a, b, number)
+    screened(&lent.words[..WORD_COUNT], work, texts, number)
 }

@@ -8,23 +8,26 @@ use ask_entry::Stat;
 // How many numbers a record has.
 pub const NUMBERS: usize = 7;
 
+// A directory is 0, a file 1, a link 2.
+fn numbers_of(s: Stat) -> [i64; NUMBERS]
+    requires { s.size < 2 ^ 63 }
+    ensures { result ≡ stat_numbers (stat_from s) }
+{
+    [
+        s.kind.code() as i64 - 1,
+        s.size as i64,
+        s.mode as i64,
+        s.accessed,
+        s.changed,
+        s.created,
+        s.modified,
+    ]
+}
+
 // Writes the record from the place `at` on.
 pub fn put_record(rows: &mut [i64], at: usize, s: Stat)
-    requires { (at + 7 ≤ length rows.old) × (s.kind < 3) × (s.size < 2 ^ 63) }
+    requires { (at + 7 ≤ length rows.old) × (s.size < 2 ^ 63) }
     ensures { rows.new ≡ take at rows.old ++ (stat_numbers (stat_from s) ++ drop (at + 7) rows.old) }
 {
-    let kind = s.kind as i64;
-    let size = s.size as i64;
-    let mode = s.mode as i64;
-    let accessed = s.accessed;
-    let changed = s.changed;
-    let created = s.created;
-    let modified = s.modified;
-    rows[at] = kind;
-    rows[at + 1] = size;
-    rows[at + 2] = mode;
-    rows[at + 3] = accessed;
-    rows[at + 4] = changed;
-    rows[at + 5] = created;
-    rows[at + 6] = modified;
+    rows[at..at + NUMBERS].copy_from_slice(&numbers_of(s));
 }

@@ -3,7 +3,7 @@
 use mathlib.Core.Bool.{Bool, true, false}
 use mathlib.Core.List.{List}
 use mathlib.Core.Path.{◌≡◌, refl, ap, ◌∙◌}
-use Prim.Native.Nat.{ℕ, zero, suc, ◌≤◌, ◌<◌}
+use Prim.Native.Nat.{ℕ, ◌≤◌, ◌<◌}
 use lib.Dec.{leb}
 use lib.IntN.{ℤ}
 use lib.ListN.{length, take}
@@ -18,12 +18,15 @@ use Rattle.model.specs.Operations.Shows.{names_text, stats_of, list_at}
 use Rattle.model.specs.Buffers.{row_numbers, in_front, written}
 use Rattle.model.specs.Calls.States.{State, world_of}
 use Rattle.model.proofs.Running.{allowed, need-run}
+use Rattle.std.specs.Prelude.{Ok, Err}
+use Rattle.refusal.specs.Numbers.{number_of}
+use Rattle.refusal.specs.declared.Refusal.{Refusal}
+use Rattle.layout.specs.Kinds.{kind_from}
+use Rattle.layout.specs.declared.kind.Kind as kind
+use Rattle.layout.specs.declared.kind.Kind.TheVariants.{Directory, File, Link}
 use Rattle.layout.specs.Store.{Store}
-use Rattle.ask_find.specs.declared.Spot.{Spot}
-use Rattle.ask_entry.specs.Reads.{kind_from}
 use Rattle.store.specs.Listing.{listed, names_of}
-use Rattle.walk.specs.declared.leads.Led.{Led}
-use Rattle.walk.specs.declared.leads.Led.TheVariants as led
+use Rattle.walk.specs.declared.There as led
 use Rattle.walk.specs.Leads.{Leads}
 use Rattle.op.specs.Lending.{in_both}
 use Rattle.op.proofs.Leading.{led_there, led-count, led-refused}
@@ -68,46 +71,49 @@ unfolding run ◌>>=◌ ◌>>◌ only_dir
 directory-run w lent rows p ls = refl
 
 -- 10: not a directory
-other_run : (w : World) (lent rows : ℕ) (p : Path) (k : ℕ) (ls : List Path) → (k ≡ 0 → ⊥) → run (list_it lent rows p (kind_from k) ls) w ≡ refused 10
+other_run : (w : World) (lent rows : ℕ) (p : Path) (k : kind.Kind) (ls : List Path) → (k ≡ Directory → ⊥) → run (list_it lent rows p (kind_from k) ls) w ≡ refused 10
 unfolding run ◌>>=◌ ◌>>◌ only_dir
-other_run w lent rows p zero ls n = absurd (n refl)
-other_run w lent rows p (suc zero) ls n = refl
-other_run w lent rows p (suc (suc k)) ls n = refl
+other_run w lent rows p Directory ls n = absurd (n refl)
+other_run w lent rows p File ls n = refl
+other_run w lent rows p Link ls n = refl
 
 -- ---- list
 
-module _ (st : Store) (s : State) (b lent rows : ℕ) (text out : Bytes) (r : Led) (l : Leads (model.leads b) st s (world_of s) text out r) where
+pub list-refused : {st : Store} {s : State} (b : ℕ) {text out : Bytes} {e : Refusal} (lent rows : ℕ) → Leads (model.leads b) st s (world_of s) text out (Err e)
+    → run (list_at b lent rows (names text)) (world_of s) ≡ refused (number_of e)
+unfolding list_at
+list-refused b lent rows l = led-refused l (λ t. list_it lent rows t.path t.kind t.links)
+
+module _ {st : Store} {s : State} (b : ℕ) {text out : Bytes} {t : led.There} (lent rows : ℕ) (l : Leads (model.leads b) st s (world_of s) text out (Ok t)) where
   abbrev w : World
   w = world_of s
 
-  pub list-refused : (n : ℕ) → r ≡ led.Refused n → run (list_at b lent rows (names text)) w ≡ refused n
+  abbrev at : Path
+  at = names (take t.len out)
+
+  abbrev found : List (Name × Stat)
+  found = listed s at
+
+  goes : run (list_at b lent rows (names text)) w ≡ run (list_it lent rows at (kind_from t.kind) l.links) w
   unfolding list_at
-  list-refused n e = led-refused (model.leads b) st s text out r l n e (λ t. list_it lent rows t.path t.kind t.links)
+  goes = led_there l (λ t. list_it lent rows t.path t.kind t.links)
 
-  module _ (spot : Spot) (k n c : ℕ) (e : r ≡ led.There spot k n c) where
-    abbrev found : List (Name × Stat)
-    found = listed s (names (take n out))
+  pub list-kind : (t.kind ≡ Directory → ⊥) → run (list_at b lent rows (names text)) w ≡ refused 10
+  list-kind z = goes ∙ other_run w lent rows at t.kind l.links z
 
-    goes : run (list_at b lent rows (names text)) w ≡ run (list_it lent rows (names (take n out)) (kind_from k) l.links) w
-    unfolding list_at
-    goes = led_there (model.leads b) st s text out r l spot k n c e (λ t. list_it lent rows t.path t.kind t.links)
+  by_tests : t.kind ≡ Directory → (x y : Bool) → leb (length (names_text found)) lent ≡ x → leb (length found) rows ≡ y → run (list_at b lent rows (names text)) w ≡ by_room w found t.links x y
+  by_tests z x y u v =
+      goes ∙ ap (λ (j : kind.Kind). run (list_it lent rows at (kind_from j) l.links) w) z ∙ directory-run w lent rows at l.links
+      ∙ answered-run w lent rows found (length l.links)
+      ∙ ap (λ (m : ℕ). by_room w found m (leb (length (names_text found)) lent) (leb (length found) rows)) (led-count l)
+      ∙ ap (λ (k : Bool). by_room w found t.links k (leb (length found) rows)) u ∙ ap (by_room w found t.links x) v
 
-    pub list-kind : (k ≡ 0 → ⊥) → run (list_at b lent rows (names text)) w ≡ refused 10
-    list-kind z = goes ∙ other_run w lent rows (names (take n out)) k l.links z
+  -- 14: the names do not fit, or the records do not
+  pub list-names : t.kind ≡ Directory → lent < length (names_of s at) → run (list_at b lent rows (names text)) w ≡ refused 14
+  list-names z x = by_tests z false (leb (length found) rows) (lt-leb (length (names_text found)) lent x) refl
 
-    by_tests : k ≡ 0 → (x y : Bool) → leb (length (names_text found)) lent ≡ x → leb (length found) rows ≡ y → run (list_at b lent rows (names text)) w ≡ by_room w found c x y
-    by_tests z x y u v =
-        goes ∙ ap (λ (j : ℕ). run (list_it lent rows (names (take n out)) (kind_from j) l.links) w) z ∙ directory-run w lent rows (names (take n out)) l.links
-        ∙ answered-run w lent rows found (length l.links)
-        ∙ ap (λ (m : ℕ). by_room w found m (leb (length (names_text found)) lent) (leb (length found) rows)) (led-count (model.leads b) st s text out r l spot k n c e)
-        ∙ ap (λ (t : Bool). by_room w found c t (leb (length found) rows)) u ∙ ap (by_room w found c x) v
+  pub list-rows : t.kind ≡ Directory → length (names_of s at) ≤ lent → rows < length found → run (list_at b lent rows (names text)) w ≡ refused 14
+  list-rows z x y = by_tests z true false (le-leb (length (names_text found)) lent x) (lt-leb (length found) rows y)
 
-    -- 14: the names do not fit, or the records do not
-    pub list-names : k ≡ 0 → lent < length (names_of s (names (take n out))) → run (list_at b lent rows (names text)) w ≡ refused 14
-    list-names z x = by_tests z false (leb (length found) rows) (lt-leb (length (names_text found)) lent x) refl
-
-    pub list-rows : k ≡ 0 → length (names_of s (names (take n out))) ≤ lent → rows < length found → run (list_at b lent rows (names text)) w ≡ refused 14
-    list-rows z x y = by_tests z true false (le-leb (length (names_text found)) lent x) (lt-leb (length found) rows y)
-
-    pub list-told : k ≡ 0 → length (names_of s (names (take n out))) ≤ lent → length found ≤ rows → run (list_at b lent rows (names text)) w ≡ done (list_reply found c) w
-    list-told z x y = by_tests z true true (le-leb (length (names_text found)) lent x) (le-leb (length found) rows y)
+  pub list-told : t.kind ≡ Directory → length (names_of s at) ≤ lent → length found ≤ rows → run (list_at b lent rows (names text)) w ≡ done (list_reply found t.links) w
+  list-told z x y = by_tests z true true (le-leb (length (names_text found)) lent x) (le-leb (length found) rows y)

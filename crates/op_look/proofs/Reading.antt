@@ -5,7 +5,7 @@ use mathlib.Core.Bool.{Bool, true, false}
 use mathlib.Core.List.{List, [], ◌∷◌}
 use mathlib.Core.Option.{Option, none, some}
 use mathlib.Core.Path.{◌≡◌, refl, sym, ap, ◌∙◌, subst}
-use Prim.Native.Nat.{ℕ, zero, suc, ◌≤◌}
+use Prim.Native.Nat.{ℕ, ◌≤◌}
 use native.Mathlib.Omega.{arith}
 use lib.Dec.{leb}
 use lib.ListN.{length, take}
@@ -23,18 +23,22 @@ use Rattle.model.specs.Operations.Directories.{canonicalize_at}
 use Rattle.model.specs.Buffers.{row_numbers, in_front}
 use Rattle.model.specs.Calls.States.{State, world_of}
 use Rattle.model.proofs.Running.{then, run_bind, allowed, need-run}
+use Rattle.std.specs.Prelude.{Result, Ok, Err}
+use Rattle.refusal.specs.Numbers.{number_of}
+use Rattle.refusal.specs.declared.Refusal.{Refusal}
+use Rattle.layout.specs.Kinds.{kind_from}
+use Rattle.layout.specs.declared.kind.Kind as kind
+use Rattle.layout.specs.declared.kind.Kind.TheVariants.{Directory, File, Link}
 use Rattle.layout.specs.Store.{Store}
-use Rattle.ask_find.specs.declared.Gap.{Gap}
-use Rattle.ask_find.specs.declared.Spot.{Spot}
-use Rattle.ask_entry.specs.Reads.{kind_from, Contents}
-use Rattle.store.specs.Shows.{Shows, Stands}
-use Rattle.walk.specs.declared.leads.Led.{Led}
-use Rattle.walk.specs.declared.leads.Led.TheVariants as led
+use Rattle.ask_entry.specs.Reads.{Contents}
+use Rattle.store.specs.Shows.{Shows}
+use Rattle.walk.specs.declared.There as led
+use Rattle.walk.specs.declared.lookup.Absent.{Absent}
 use Rattle.walk.specs.declared.lookup.Looked.{Looked}
 use Rattle.walk.specs.declared.lookup.Looked.TheVariants as looked
 use Rattle.walk.specs.Meets.{Plain}
-use Rattle.walk.specs.Lookups.{reaches, LookPlaced, Looks}
-use Rattle.walk.specs.Leads.{LedPlaced, Leads}
+use Rattle.walk.specs.Lookups.{reaches, Looks}
+use Rattle.walk.specs.Leads.{Leads}
 use Rattle.op.specs.Lending.{in_bytes, PutIs, put, short}
 use Rattle.op.specs.Doing.{Does}
 use Rattle.op.proofs.Doing.{does-refused, does-told}
@@ -123,68 +127,48 @@ put_same {out = out} {after = after} {number = number} {numberAfter = numberAfte
 
 -- ---- canonicalize
 
-module _ (st : Store) (s : State) (b lent : ℕ) (text out : Bytes) (r : Led) (l : Leads (model.leads b) st s (world_of s) text out r) where
-  pub canonical-refused : (n : ℕ) → r ≡ led.Refused n → run (canonicalize_at b lent (names text)) (world_of s) ≡ refused n
-  unfolding canonicalize_at tell_it
-  canonical-refused n e = led-refused (model.leads b) st s text out r l n e (λ t. tell_it lent (render t.path) t.links)
+pub canonical-refused : {st : Store} {s : State} (b : ℕ) {text out : Bytes} {e : Refusal} (lent : ℕ) → Leads (model.leads b) st s (world_of s) text out (Err e)
+    → run (canonicalize_at b lent (names text)) (world_of s) ≡ refused (number_of e)
+unfolding canonicalize_at tell_it
+canonical-refused b lent l = led-refused l (λ t. tell_it lent (render t.path) t.links)
 
-  pub canonical_there : (spot : Spot) (k n c : ℕ) → r ≡ led.There spot k n c
-      → run (canonicalize_at b lent (names text)) (world_of s) ≡ run (tell_it lent (render (names (take n out))) l.links) (world_of s)
-  unfolding canonicalize_at tell_it
-  canonical_there spot k n c e = led_there (model.leads b) st s text out r l spot k n c e (λ t. tell_it lent (render t.path) t.links)
-
--- what stands in front of the buffer is a path
-module _ (step : Path → Prog model.There) (st : Store) (s : State) (text out : Bytes) (r : Led) (l : Leads step st s (world_of s) text out r) where
-  pub led-plain : (spot : Spot) (k n c : ℕ) → r ≡ led.There spot k n c → Plain (take n out)
-  led-plain spot k n c e = (subst (LedPlaced st s (world_of s) l.links out) e l.place).0.plain
-
-  pub led-fits : (spot : Spot) (k n c : ℕ) → r ≡ led.There spot k n c → n ≤ 1024
-  led-fits spot k n c e = (subst (LedPlaced st s (world_of s) l.links out) e l.place).0.fits
+pub canonical_there : {st : Store} {s : State} (b : ℕ) {text out : Bytes} {t : led.There} (lent : ℕ) (l : Leads (model.leads b) st s (world_of s) text out (Ok t))
+    → run (canonicalize_at b lent (names text)) (world_of s) ≡ run (tell_it lent (render (names (take t.len out))) l.links) (world_of s)
+unfolding canonicalize_at tell_it
+canonical_there b lent l = led_there l (λ t. tell_it lent (render t.path) t.links)
 
 -- ---- read
 
-module _ (st : Store) (s : State) (hide b : ℕ) (text out : Bytes) (r : Looked) (l : Looks st s (world_of s) hide b text out r) where
-  abbrev w : World
-  w = world_of s
+-- by what it was found to be
+pub as_looked : {st : Store} {s : State} {hide b : ℕ} {text out : Bytes} {q p : Looked} → q ≡ p → Looks st s (world_of s) hide b text out (Ok q) → Looks st s (world_of s) hide b text out (Ok p)
+as_looked {st = st} {s = s} {hide = hide} {b = b} {text = text} {out = out} e l = subst (λ (k : Looked). Looks st s (world_of s) hide b text out (Ok k)) e l
 
-  -- the file that was found
-  module _ (spot : Spot) (k n c : ℕ) (e : r ≡ looked.Found spot k n c) where
-    abbrev found-place : LookPlaced st s w hide l.links out (looked.Found spot k n c)
-    found-place = subst (LookPlaced st s w hide l.links out) e l.place
+module _ (lent : ℕ) where
+  -- the steps behind the lookup: the last name, the file, its bytes
+  abbrev apart : Where → Prog Where
+  apart a = parted a.path >>= λ _. ret a
 
-    pub look-stands : Stands st spot (names (take n out))
-    look-stands = found-place.1.at
+  abbrev source : Where → Prog Source
+  source a = must a.kind >>= λ k. only_file k >> (asks (bytes? a.path) >>= λ t. ret (record { bytes = text_or t; link_count = length a.links }))
 
-    pub look-count : length l.links ≡ c
-    look-count = found-place.0.counted
+  abbrev tells : Source → Prog Reply
+  tells f = fits (length f.bytes) lent >> ret (bytes_reply f.bytes f.link_count)
 
-  module _ (lent : ℕ) where
-    -- the steps behind the lookup: the last name, the file, its bytes
-    abbrev apart : Where → Prog Where
-    apart a = parted a.path >>= λ _. ret a
+  abbrev finish : Out Where → Out Reply
+  finish o = then (then (then o (λ a u. run (apart a) u)) (λ a u. run (source a) u)) (λ f u. run (tells f) u)
 
-    abbrev source : Where → Prog Source
-    source a = must a.kind >>= λ k. only_file k >> (asks (bytes? a.path) >>= λ t. ret (record { bytes = text_or t; link_count = length a.links }))
+  by_end : {st : Store} {s : State} {hide b : ℕ} {text out : Bytes} {r : Result Looked Refusal} (l : Looks st s (world_of s) hide b text out r)
+      → run (read_at b lent (names text)) (world_of s) ≡ finish (reaches (world_of s) l.links out r)
+  unfolding read_at source_at open_walk
+  by_end {s = s} {b = b} {text = text} l =
+      run_bind (source_at b (names text)) tells (world_of s)
+      ∙ ap (λ (o : Out Source). then o (λ f u. run (tells f) u)) (run_bind (open_walk b (names text)) source (world_of s) ∙ ap (λ (o : Out Where). then o (λ a u. run (source a) u)) (run_bind (lookup b (names text)) apart (world_of s)))
+      ∙ ap finish (l.answer [])
 
-    abbrev tells : Source → Prog Reply
-    tells f = fits (length f.bytes) lent >> ret (bytes_reply f.bytes f.link_count)
-
-    abbrev finish : Out Where → Out Reply
-    finish o = then (then (then o (λ a u. run (apart a) u)) (λ a u. run (source a) u)) (λ f u. run (tells f) u)
-
-    by_end : (q : Looked) → r ≡ q → run (read_at b lent (names text)) w ≡ finish (reaches w l.links out q)
-    unfolding read_at source_at open_walk
-    by_end q e =
-        run_bind (source_at b (names text)) tells w
-        ∙ ap (λ (o : Out Source). then o (λ f u. run (tells f) u)) (run_bind (open_walk b (names text)) source w ∙ ap (λ (o : Out Where). then o (λ a u. run (source a) u)) (run_bind (lookup b (names text)) apart w))
-        ∙ ap finish (l.answer [] ∙ ap (reaches w l.links out) e)
-
-    pub read-refused : (n : ℕ) → r ≡ looked.Refused n → run (read_at b lent (names text)) w ≡ refused n
-    read-refused n e = by_end (looked.Refused n) e
-
-    -- what was looked up, at the path p
+  -- what was looked up, at the path p
+  module _ (w : World) (ls : List Path) where
     abbrev at : Option Kind → Path → Out Where
-    at k p = done (record { path = p; kind = k; links = l.links }) w
+    at k p = done (record { path = p; kind = k; links = ls }) w
 
     -- 5: it is the root's
     at-root : (k : Option Kind) (p : Path) → p ≡ [] → finish (at k p) ≡ refused 5
@@ -193,7 +177,7 @@ module _ (st : Store) (s : State) (hide b : ℕ) (text out : Bytes) (r : Looked)
 
     -- what follows where it has a last name
     abbrev onward : (k : Option Kind) → Path → Out Reply
-    onward k p = then (run (source (record { path = p; kind = k; links = l.links })) w) (λ f u. run (tells f) u)
+    onward k p = then (run (source (record { path = p; kind = k; links = ls })) w) (λ f u. run (tells f) u)
 
     at_name : (k : Option Kind) (p : Path) → (x : Name) × (q : Path) × (p ≡ x ∷ q) → finish (at k p) ≡ onward k p
     unfolding parted run ◌>>=◌
@@ -201,37 +185,41 @@ module _ (st : Store) (s : State) (hide b : ℕ) (text out : Bytes) (r : Looked)
         ap (λ (q : Path). finish (at k q)) y.2 ∙ ap (λ (q : Path). onward k q) (sym y.2)
 
     -- 10: not a file
-    source-wrong : (k : ℕ) (p : Path) → (k ≡ 1 → ⊥) → onward (some (kind_from k)) p ≡ refused 10
+    source-wrong : (k : kind.Kind) (p : Path) → (k ≡ File → ⊥) → onward (some (kind_from k)) p ≡ refused 10
     unfolding must only_file run ◌>>=◌ ◌>>◌
-    source-wrong zero p f = refl
-    source-wrong (suc zero) p f = absurd (f refl)
-    source-wrong (suc (suc k)) p f = refl
+    source-wrong Directory p f = refl
+    source-wrong File p f = absurd (f refl)
+    source-wrong Link p f = refl
 
-    source-file : (k : ℕ) (p : Path) (t : Bytes) → k ≡ 1 → answer (bytes? p) w ≡ some t → onward (some (kind_from k)) p ≡ run (tell_it lent t l.links) w
+    source-file : (k : kind.Kind) (p : Path) (t : Bytes) → k ≡ File → answer (bytes? p) w ≡ some t → onward (some (kind_from k)) p ≡ run (tell_it lent t ls) w
     unfolding must only_file run ◌>>=◌ ◌>>◌ tell_it
-    source-file k p t f y = ap (λ (j : ℕ). onward (some (kind_from j)) p) f ∙ ap (λ (o : Option Bytes). run (tell_it lent (text_or o) l.links) w) y
+    source-file k p t f y = ap (λ (j : kind.Kind). onward (some (kind_from j)) p) f ∙ ap (λ (o : Option Bytes). run (tell_it lent (text_or o) ls) w) y
 
-    pub read-no-name : (gap : Gap) (a n c : ℕ) → r ≡ looked.Missing gap a n c → n ≡ 0 → run (read_at b lent (names text)) w ≡ refused 5
-    read-no-name gap a n c e z = by_end (looked.Missing gap a n c) e ∙ at-root none _ (front-root out n (subst (LookPlaced st s w hide l.links out) e l.place).0.plain z)
+  pub read-refused : {st : Store} {s : State} {hide b : ℕ} {text out : Bytes} {e : Refusal} → Looks st s (world_of s) hide b text out (Err e)
+      → run (read_at b lent (names text)) (world_of s) ≡ refused (number_of e)
+  read-refused l = by_end l
 
-    pub read-missing : (gap : Gap) (a n c : ℕ) → r ≡ looked.Missing gap a n c → (n ≡ 0 → ⊥) → 1024 ≤ length out → run (read_at b lent (names text)) w ≡ refused 8
+  -- what is not there
+  module _ {st : Store} {s : State} {hide b : ℕ} {text out : Bytes} {a : Absent} (l : Looks st s (world_of s) hide b text out (Ok (looked.Missing a))) where
+    pub read-no-name : a.len ≡ 0 → run (read_at b lent (names text)) (world_of s) ≡ refused 5
+    read-no-name z = by_end l ∙ at-root (world_of s) l.links none _ (front-root out a.len l.place.0.plain z)
+
+    pub read-missing : (a.len ≡ 0 → ⊥) → 1024 ≤ length out → run (read_at b lent (names text)) (world_of s) ≡ refused 8
     unfolding must run ◌>>=◌
-    read-missing gap a n c e z m =
-        let i = (subst (LookPlaced st s w hide l.links out) e l.place).0 in
-        by_end (looked.Missing gap a n c) e ∙ at_name none _ (front-named out n i.plain z (omega (arith, i.fits, m)))
+    read-missing z m = by_end l ∙ at_name (world_of s) l.links none _ (front-named out a.len l.place.0.plain z (omega (arith, l.place.0.fits, m)))
 
-    module _ (spot : Spot) (k n c : ℕ) (e : r ≡ looked.Found spot k n c) where
-      pub read-root : n ≡ 0 → run (read_at b lent (names text)) w ≡ refused 5
-      read-root z = by_end (looked.Found spot k n c) e ∙ at-root _ _ (front-root out n (found-place spot k n c e).0.plain z)
+  -- what is
+  module _ {st : Store} {s : State} {hide b : ℕ} {text out : Bytes} {t : led.There} (l : Looks st s (world_of s) hide b text out (Ok (looked.Found t))) where
+    pub read-root : t.len ≡ 0 → run (read_at b lent (names text)) (world_of s) ≡ refused 5
+    read-root z = by_end l ∙ at-root (world_of s) l.links _ _ (front-root out t.len l.place.0.plain z)
 
-      named : (n ≡ 0 → ⊥) → 1024 ≤ length out → run (read_at b lent (names text)) w ≡ onward (some (kind_from k)) (names (take n out))
-      named z m =
-          let i = (found-place spot k n c e).0 in
-          by_end (looked.Found spot k n c) e ∙ at_name _ _ (front-named out n i.plain z (omega (arith, i.fits, m)))
+    named : (t.len ≡ 0 → ⊥) → 1024 ≤ length out → run (read_at b lent (names text)) (world_of s) ≡ onward (world_of s) l.links (some (kind_from t.kind)) (names (take t.len out))
+    named z m = by_end l ∙ at_name (world_of s) l.links _ _ (front-named out t.len l.place.0.plain z (omega (arith, l.place.0.fits, m)))
 
-      pub read-wrong : (n ≡ 0 → ⊥) → 1024 ≤ length out → (k ≡ 1 → ⊥) → run (read_at b lent (names text)) w ≡ refused 10
-      read-wrong z m f = named z m ∙ source-wrong k (names (take n out)) f
+    pub read-wrong : (t.len ≡ 0 → ⊥) → 1024 ≤ length out → (t.kind ≡ File → ⊥) → run (read_at b lent (names text)) (world_of s) ≡ refused 10
+    read-wrong z m f = named z m ∙ source-wrong (world_of s) l.links t.kind (names (take t.len out)) f
 
-      pub read-file : (n ≡ 0 → ⊥) → 1024 ≤ length out → k ≡ 1 → (t : Bytes) → Contents w (names (take n out)) t → run (read_at b lent (names text)) w ≡ run (tell_it lent t l.links) w
-      read-file z m f t x =
-          named z m ∙ source-file k (names (take n out)) t f (x.file ((found-place spot k n c e).2 ∙ ap (λ (j : ℕ). some (kind_from j)) f))
+    pub read-file : (t.len ≡ 0 → ⊥) → 1024 ≤ length out → t.kind ≡ File → (bs : Bytes) → Contents (world_of s) (names (take t.len out)) bs
+        → run (read_at b lent (names text)) (world_of s) ≡ run (tell_it lent bs l.links) (world_of s)
+    read-file z m f bs x =
+        named z m ∙ source-file (world_of s) l.links t.kind (names (take t.len out)) bs f (x.file (l.place.2 ∙ ap (λ (j : kind.Kind). some (kind_from j)) f))

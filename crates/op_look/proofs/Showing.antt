@@ -21,11 +21,12 @@ use Rattle.model.specs.Calls.States.{State, world_of}
 use Rattle.model.proofs.Running.{allowed, need-run}
 use Rattle.model.proofs.Entries.{clash, some_inj}
 use Rattle.model.proofs.Sound.Settled.{contents-file}
+use Rattle.std.specs.Prelude.{Ok, Err}
+use Rattle.refusal.specs.Numbers.{number_of}
+use Rattle.refusal.specs.declared.Refusal.{Refusal}
 use Rattle.layout.specs.Store.{Store}
-use Rattle.ask_find.specs.declared.Spot.{Spot}
 use Rattle.store.specs.Shows.{Shows, says}
-use Rattle.walk.specs.declared.leads.Led.{Led}
-use Rattle.walk.specs.declared.leads.Led.TheVariants as led
+use Rattle.walk.specs.declared.There as led
 use Rattle.walk.specs.Leads.{Leads}
 use Rattle.op.specs.Lending.{in_rows}
 use Rattle.op.specs.Doing.{Does}
@@ -99,12 +100,12 @@ module _ (p : Prog Reply) (s : State) (st : Store) (h : Shows st s) (path : Path
 
 -- ---- metadata
 
-module _ (st : Store) (s : State) (b lent : ℕ) (text out : Bytes) (r : Led) (l : Leads (model.leads b) st s (world_of s) text out r) where
-  pub metadata-refused : (n : ℕ) → r ≡ led.Refused n → run (metadata_at b lent (names text)) (world_of s) ≡ refused n
-  unfolding metadata_at show_it
-  metadata-refused n e = led-refused (model.leads b) st s text out r l n e (λ t. show_it lent t.path t.links)
+pub metadata-refused : {st : Store} {s : State} (b : ℕ) {text out : Bytes} {e : Refusal} (lent : ℕ) → Leads (model.leads b) st s (world_of s) text out (Err e)
+    → run (metadata_at b lent (names text)) (world_of s) ≡ refused (number_of e)
+unfolding metadata_at show_it
+metadata-refused b lent l = led-refused l (λ t. show_it lent t.path t.links)
 
-  pub metadata_there : (spot : Spot) (k n c : ℕ) → r ≡ led.There spot k n c
-      → run (metadata_at b lent (names text)) (world_of s) ≡ run (show_it lent (names (take n out)) l.links) (world_of s)
-  unfolding metadata_at show_it
-  metadata_there spot k n c e = led_there (model.leads b) st s text out r l spot k n c e (λ t. show_it lent t.path t.links)
+pub metadata_there : {st : Store} {s : State} (b : ℕ) {text out : Bytes} {t : led.There} (lent : ℕ) (l : Leads (model.leads b) st s (world_of s) text out (Ok t))
+    → run (metadata_at b lent (names text)) (world_of s) ≡ run (show_it lent (names (take t.len out)) l.links) (world_of s)
+unfolding metadata_at show_it
+metadata_there b lent l = led_there l (λ t. show_it lent t.path t.links)

@@ -5,139 +5,109 @@ ghost use Rattle.model.specs.Tree.{links_in};
 ghost use Rattle.model.specs.Operations.Contents.{read_at};
 ghost use Rattle.model.specs.Operations.Directories.{canonicalize_at};
 ghost use Rattle.model.specs.Operations.Shows.{read_link_at};
-ghost use Rattle.layout.specs.Lent.{◌∘◌, with_words, with_records, with_heads, with_bytes, still};
-ghost use Rattle.layout.specs.Lent.{◌&◌};
+ghost use Rattle.refusal.specs.Numbers.{answered};
+ghost use Rattle.layout.specs.Lent.{with_tree, still};
 ghost use Rattle.store.specs.Shows.{Some};
-ghost use Rattle.walk.specs.Meets.{Plain};
 ghost use Rattle.op.specs.Lending.{in_bytes, PutIs};
 ghost use Rattle.op.specs.Doing.{Answered};
-ghost use Rattle.op.specs.Testing.{PathIn};
+ghost use Rattle.walk.specs.Meets.{Plain, PathIn};
 
+use layout::kind::Kind;
+use layout::slices::Tree;
 use op::answer::put_bytes;
 use op::at::{leads, lookup, no_follow};
-use walk::leads::Led;
-use walk::lookup::{End, Looked};
+use refusal::Refusal;
+use walk::End;
+use walk::lookup::Looked;
 
 // The target of the link at the path in work[..len], as it was given.
 pub fn read_link_at(
-    words: &[u64],
-    records: &[u64],
-    heads: &[u64],
-    bytes: &[u8],
+    tree: Tree,
     work: &mut [u8],
     len: usize,
     out: &mut [u8],
     number: &mut u64,
     links: &mut u64,
-) -> u32
-    requires { Some (with_words words.now ∘ with_records records.now ∘ with_heads heads.now ∘ with_bytes bytes.now) × PathIn work.old len }
-    ensures { Answered (still (with_words words.now ∘ with_records records.now ∘ with_heads heads.now ∘ with_bytes bytes.now))
-        (λ s. read_link_at (length out.old) (names (take len work.old)))
-        (in_bytes out.old number.old links.old)
-        (in_bytes out.new number.new links.new) result }
+) -> Result<(), Refusal>
+    requires { Some (with_tree tree) × PathIn work.old len }
+    ensures { Answered (still (with_tree tree.entry)) (λ s. read_link_at (length out.old) (names (take len work.old)))
+        (in_bytes out.old number.old links.old) (in_bytes out.new number.new links.new) (answered result) }
 {
-    let w = no_follow(words, records, heads, bytes, work, len);
-    let k = w.links;
-    let end = w.end;
-    match end {
-        End::Found(_, _) => 10,
-        End::Missing(_, _) => 8,
-        End::Refused(r) => r,
+    let walked = no_follow(tree, work, len)?;
+    match walked.end {
+        End::Found(_, _) => Err(Refusal::WrongKind),
+        End::Missing(_, _) => Err(Refusal::NotFound),
         End::LastLink(spot, _) => {
-            let target = store::contents(words, records, heads, bytes, spot);
-            let r = put_bytes(out, number, target);
-            if r != 0 {
-                return r;
-            }
-            *links = k as u64;
-            0
+            let target = store::contents(tree.words, tree.records, tree.heads, tree.bytes, spot);
+            put_bytes(out, number, target)?;
+            *links = walked.links as u64;
+            Ok(())
         }
     }
 }
 
 // The contents of the file that the path in work[..len] leads to. 5 is of the path that the lookup comes to.
 pub fn read_at(
-    words: &[u64],
-    records: &[u64],
-    heads: &[u64],
-    bytes: &[u8],
+    tree: Tree,
     work: &mut [u8],
     len: usize,
     out: &mut [u8],
     number: &mut u64,
     links: &mut u64,
-) -> u32
-    requires { Some (with_words words.now ∘ with_records records.now ∘ with_heads heads.now ∘ with_bytes bytes.now) × PathIn work.old len }
-    ensures { Answered (still (with_words words.now ∘ with_records records.now ∘ with_heads heads.now ∘ with_bytes bytes.now))
-        (λ s. read_at (links_in s.tree) (length out.old) (names (take len work.old)))
-        (in_bytes out.old number.old links.old)
-        (in_bytes out.new number.new links.new) result }
+) -> Result<(), Refusal>
+    requires { Some (with_tree tree) × PathIn work.old len }
+    ensures { Answered (still (with_tree tree.entry)) (λ s. read_at (links_in s.tree) (length out.old) (names (take len work.old)))
+        (in_bytes out.old number.old links.old) (in_bytes out.new number.new links.new) (answered result) }
 {
-    match lookup(words, records, heads, bytes, work, len) {
-        Looked::Refused(r) => r,
-        Looked::Missing(_, _, n, _) => {
-            if n == 0 {
-                return 5;
-            }
-            8
+    let looked = lookup(tree, work, len)?;
+    let there = match looked {
+        Looked::Missing(absent) => {
+            return Err(if absent.len == 0 {
+                Refusal::NoLastName
+            } else {
+                Refusal::NotFound
+            });
         }
-        Looked::Found(spot, kind, n, k) => {
-            if n == 0 {
-                return 5;
-            }
-            if kind != 1 {
-                return 10;
-            }
-            let contents = store::contents(words, records, heads, bytes, spot);
-            let r = put_bytes(out, number, contents);
-            if r != 0 {
-                return r;
-            }
-            *links = k as u64;
-            0
-        }
+        Looked::Found(there) => there,
+    };
+    if there.len == 0 {
+        return Err(Refusal::NoLastName);
     }
+    if there.kind != Kind::File {
+        return Err(Refusal::WrongKind);
+    }
+    let contents = store::contents(tree.words, tree.records, tree.heads, tree.bytes, there.spot);
+    put_bytes(out, number, contents)?;
+    *links = there.links as u64;
+    Ok(())
 }
 
 // A path as it is shown: a slash alone for the root.
-pub fn put_path(out: &mut [u8], number: &mut u64, path: &[u8]) -> u32
+pub fn put_path(out: &mut [u8], number: &mut u64, path: &[u8]) -> Result<(), Refusal>
     requires { Plain path.now }
-    ensures { PutIs (render (names path.now)) out.old number.old out.new number.new result }
+    ensures { PutIs (render (names path.now)) out.old number.old out.new number.new (answered result) }
 {
     if path.len() == 0 {
-        let root = [47u8; 1];
-        return put_bytes(out, number, &root[..]);
+        return put_bytes(out, number, b"/");
     }
     put_bytes(out, number, path)
 }
 
 // The path of the entry that the path in work[..len] leads to.
 pub fn canonicalize_at(
-    words: &[u64],
-    records: &[u64],
-    heads: &[u64],
-    bytes: &[u8],
+    tree: Tree,
     work: &mut [u8],
     len: usize,
     out: &mut [u8],
     number: &mut u64,
     links: &mut u64,
-) -> u32
-    requires { Some (with_words words.now ∘ with_records records.now ∘ with_heads heads.now ∘ with_bytes bytes.now) × PathIn work.old len }
-    ensures { Answered (still (with_words words.now ∘ with_records records.now ∘ with_heads heads.now ∘ with_bytes bytes.now))
-        (λ s. canonicalize_at (links_in s.tree) (length out.old) (names (take len work.old)))
-        (in_bytes out.old number.old links.old)
-        (in_bytes out.new number.new links.new) result }
+) -> Result<(), Refusal>
+    requires { Some (with_tree tree) × PathIn work.old len }
+    ensures { Answered (still (with_tree tree.entry)) (λ s. canonicalize_at (links_in s.tree) (length out.old) (names (take len work.old)))
+        (in_bytes out.old number.old links.old) (in_bytes out.new number.new links.new) (answered result) }
 {
-    match leads(words, records, heads, bytes, work, len) {
-        Led::Refused(r) => r,
-        Led::There(_, _, n, k) => {
-            let r = put_path(out, number, &work[..n]);
-            if r != 0 {
-                return r;
-            }
-            *links = k as u64;
-            0
-        }
-    }
+    let there = leads(tree, work, len)?;
+    put_path(out, number, &work[..there.len])?;
+    *links = there.links as u64;
+    Ok(())
 }

@@ -1,14 +1,12 @@
 -- An operation by file number that is one edit and answers nothing: the store shows the edited state, so that it is done.
 -- Assumes nothing.
-use Rattle.std.proofs.Common.{◌≡◌, ℕ, ◌/◌, ◌%◌, Bool, true, false, eqb, refl, ap, ◌∙◌, subst, arith, Option}
-use Rattle.std.specs.Bool.{then_some}
+use Rattle.std.proofs.Common.{◌≡◌, ℕ, refl, Option}
 use Rattle.model.specs.Tree.{Time, chmod, touch_some}
 use Rattle.model.specs.Prog.{Edit, close, change_held, apply, Prog, ◌>>=◌, ◌>>◌, done, run}
 use Rattle.model.specs.Operations.Numbers.{close_on, set_mode_on, set_times_on}
 use Rattle.model.specs.Operations.Steps.{Reply, plain_reply}
 use Rattle.model.specs.Calls.States.{State, world_of, edited}
-use Rattle.model.specs.Calls.Performing.{bit, given_if}
-use Rattle.model.specs.Buffers.{Outputs, row_numbers}
+use Rattle.model.specs.Buffers.{row_numbers}
 use Rattle.layout.specs.Store.{Store}
 use Rattle.edit_slot.specs.Times.{in_model}
 use Rattle.store.specs.Shows.{Shows}
@@ -21,11 +19,6 @@ pub does-changed : (p : Prog Reply) (s : State) (u : Store) (e : Edit) → run p
 unfolding row_numbers
 does-changed p s u e r h = does-done p s u (plain_reply 0) (apply e (world_of s)) r h in_nothing in_nothing refl
 
--- a time that is given by a flag
-given_then : (b : Bool) (t : Time) → in_model (then_some b t) ≡ given_if b t
-given_then true t = refl
-given_then false t = refl
-
 module _ (s : State) (u : Store) (n : ℕ) where
   pub does-closed : Shows u (edited (close n) s) → Does (close_on n) s u in_nothing in_nothing 0
   unfolding run ◌>>=◌ ◌>>◌ close_on
@@ -35,20 +28,6 @@ module _ (s : State) (u : Store) (n : ℕ) where
   unfolding run ◌>>=◌ ◌>>◌ set_mode_on
   does-mode m h = does-changed (set_mode_on n m) s u (change_held n (chmod m)) refl h
 
-  -- a flag that is tested by its last bit is the flag of value 1
-  pub does-times : (f : ℕ) (a m : Time) {x y : Option Time} → x ≡ then_some (eqb (f % 2) 1) a → y ≡ then_some (bit f 2) m → Shows u (edited (change_held n (touch_some (in_model x) (in_model y))) s)
-      → Does (set_times_on n (given_if (bit f 1) a) (given_if (bit f 2) m)) s u in_nothing in_nothing 0
+  pub does-times : (x y : Option Time) → Shows u (edited (change_held n (touch_some (in_model x) (in_model y))) s) → Does (set_times_on n (in_model x) (in_model y)) s u in_nothing in_nothing 0
   unfolding run ◌>>=◌ ◌>>◌ set_times_on
-  does-times f a m x y h =
-      let z : eqb (f % 2) 1 ≡ bit f 1 = ap (λ (k : ℕ). eqb k 1) (let w : f % 2 ≡ f / 1 % 2 = omega arith in w) in
-      let first : in_model _ ≡ given_if (bit f 1) a = ap in_model (x ∙ ap (λ (b : Bool). then_some b a) z) ∙ given_then (bit f 1) a in
-      let second : in_model _ ≡ given_if (bit f 2) m = ap in_model y ∙ given_then (bit f 2) m in
-      does-changed (set_times_on n (given_if (bit f 1) a) (given_if (bit f 2) m)) s u (change_held n (touch_some (given_if (bit f 1) a) (given_if (bit f 2) m))) refl
-      (subst (Shows u) (λ i. edited (change_held n (touch_some (first i) (second i))) s) h)
-
--- times that are the same, however they were passed
-pub same_times : (n flags : ℕ) {a b m k : Time} {s : State} {u : Store} {o after : Outputs} {r : ℕ} → a ≡ b → m ≡ k
-    → Does (set_times_on n (given_if (bit flags 1) a) (given_if (bit flags 2) m)) s u o after r → Does (set_times_on n (given_if (bit flags 1) b) (given_if (bit flags 2) k)) s u o after r
-same_times n flags {b = b} {m = m} {s = s} {u = u} {o = o} {after = after} {r = r} e f d =
-    subst (λ (x : Time). Does (set_times_on n (given_if (bit flags 1) b) (given_if (bit flags 2) x)) s u o after r) f
-    (subst (λ (x : Time). Does (set_times_on n (given_if (bit flags 1) x) (given_if (bit flags 2) m)) s u o after r) e d)
+  does-times x y h = does-changed (set_times_on n (in_model x) (in_model y)) s u (change_held n (touch_some (in_model x) (in_model y))) refl h

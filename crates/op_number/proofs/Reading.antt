@@ -1,9 +1,10 @@
 -- Read and seek by a number that is open: its position and its bytes are told, so the program goes on with them, and what it comes to is
 -- the edit that moves the position.
 -- Assumes nothing.
-use Rattle.std.proofs.Common.{◌≡◌, ℕ, ◌+◌, ◌-◌, ◌^◌, ◌<◌, ◌≤◌, [], ◌∷◌, length, take, drop, sym, refl, ap, ◌∙◌, subst, arith, length-drop, length-take, take_all}
+use Rattle.std.proofs.Common.{◌≡◌, ℕ, ◌+◌, ◌^◌, ◌<◌, ◌≤◌, ◌++◌, length, take, drop, sym, refl, ap, ◌∙◌, arith, length-drop, length-take}
 use mathlib.Core.Option.{Option, some}
-use lib.Seq.{paste}
+use Rattle.std.specs.Prelude as Prelude
+use Rattle.std.specs.Option.{unwrap_or}
 use Rattle.text.specs.Utf8.{Bytes}
 use Rattle.model.specs.Prog.{World, Position, open?, held?, answer, seek, apply, Prog, ret, edits, ◌>>=◌, ◌>>◌, Out, done, refused, run}
 use Rattle.model.specs.Lookup.{text_or}
@@ -15,47 +16,22 @@ use Rattle.model.proofs.Entries.{clash, some_inj}
 use Rattle.model.proofs.Running.{then, run_bind}
 use Rattle.layout.specs.Store.{Store}
 use Rattle.store.specs.Shows.{Shows, says, NumberIs, HeldIs}
-use Rattle.store.specs.declared.Number.{Number}
-use Rattle.store.specs.declared.Number.TheVariants as number
 use Rattle.store_edit.specs.Turns.{NumberOpen}
 use Rattle.op.specs.Lending.{in_bytes, in_number}
 use Rattle.op.specs.Doing.{Does}
-use Rattle.op.proofs.Writing.{over_front}
 use Rattle.op.proofs.Doing.{does-refused, does-done}
-use Rattle.op_number.specs.declared.position.Sought.{Sought}
-use Rattle.op_number.specs.declared.position.Sought.TheVariants as sought
-use Rattle.op_number.specs.Opened.{PositionIs, seeks, SeekIs}
+use Rattle.op_number.specs.Opened.{PositionIs}
 
 -- ---- the position
 
-pub position-open : (s : State) (n k : ℕ) (r : Number) → NumberIs s n r → r ≡ number.Open k → PositionIs s n k
-position-open s n k r x e o y =
-    let z = subst (NumberIs s n) e x in
-    ap (λ (p : Position). p.pos) (some_inj (sym y ∙ z.1)) ∙ z.2
-
--- a number that is closed has none
-pub position-closed : (s : State) (n k : ℕ) (r : Number) → NumberIs s n r → r ≡ number.Closed → PositionIs s n k
-position-closed s n k r x e o y = clash (says (open? n) s) o (subst (NumberIs s n) e x) y
+-- the one that is told; a number that is closed has none
+pub position-told : (s : State) (n : ℕ) (r : Prelude.Option ℕ) → NumberIs s n r → PositionIs s n (unwrap_or r 0)
+position-told s n Prelude.None x = λ o y. clash (says (open? n) s) o x y
+position-told s n (Prelude.Some k) x = λ o y. ap (λ (p : Position). p.pos) (some_inj (sym y ∙ x.1)) ∙ x.2
 
 -- ---- the bytes from a position on
 
--- none, all that there are, or as many as are wanted
 module _ (s : Bytes) (pos most : ℕ) where
-  pub behind-end : length s ≤ pos → [] ≡ take most (drop pos s)
-  behind-end h = sym (nothing (take most (drop pos s)) (omega (arith, length-take most (drop pos s), length-drop pos s)))
-    where
-      nothing : (l : Bytes) → length l ≡ 0 → l ≡ []
-      nothing [] e = refl
-      nothing (x ∷ l) e = absurd (omega (arith, e))
-
-  pub behind_all : length s - pos ≤ most → take (length s - pos) (drop pos s) ≡ take most (drop pos s)
-  behind_all h =
-      let l = length-drop pos s in
-      take_all (length s - pos) (drop pos s) (omega (arith, l)) ∙ sym (take_all most (drop pos s) (omega (arith, l)))
-
-  pub behind_some : take (pos + most - pos) (drop pos s) ≡ take most (drop pos s)
-  behind_some = let e : pos + most - pos ≡ most = omega arith in ap (λ (k : ℕ). take k (drop pos s)) e
-
   -- the position behind them
   pub behind-low : pos < 2 ^ 64 → length s < 2 ^ 63 → (r : Bytes) → r ≡ take most (drop pos s) → pos + length r < 2 ^ 64
   behind-low h k r e = omega (arith, ap length e, length-take most (drop pos s), length-drop pos s)
@@ -99,20 +75,20 @@ module _ (s : State) (n : ℕ) (b : Bytes) (pos : ℕ) (o : NumberOpen n s) (y :
   abbrev place : o.0.pos ≡ pos
   place = z o.0 o.1
 
-  pub does-read : (u : Store) (out after : Bytes) (number : ℕ) (r : Bytes) → r ≡ take (length out) (drop pos b) → after ≡ paste out 0 r (length r)
-      → Shows u (edited (seek n (pos + length r)) s) → Does (read_on n (length out)) s u (in_bytes out number 0) (in_bytes after (length r) 0) 0
+  pub does-read : (u : Store) (out : Bytes) (number : ℕ) (r copied : Bytes) → r ≡ take (length out) (drop pos b) → copied ≡ r
+      → Shows u (edited (seek n (pos + length r)) s) → Does (read_on n (length out)) s u (in_bytes out number 0) (in_bytes (copied ++ drop (length r) out) (length r) 0) 0
   unfolding row_numbers
-  does-read u out after number r e f h =
+  does-read u out number r copied e f h =
       does-done (read_on n (length out)) s u (bytes_reply r 0) (apply (seek n (pos + length r)) (world_of s)) (read-run n (world_of s) o.0 b pos o.1 bytes place (length out) r e) h
-      (in_bytes out number 0) (in_bytes after (length r) 0) (ap (λ (l : Bytes). in_bytes l (length r) 0) (f ∙ over_front r out))
+      (in_bytes out number 0) (in_bytes (copied ++ drop (length r) out) (length r) 0) (ap (λ (l : Bytes). in_bytes (l ++ drop (length r) out) (length r) 0) f)
 
-  module _ (origin offset number : ℕ) (r : Sought) (q : SeekIs origin offset pos (length b) r) where
-    pub does-sought : (u : Store) (k : ℕ) → r ≡ sought.At k → Shows u (edited (seek n k) s) → Does (seek_on n origin offset) s u (in_number number) (in_number k) 0
+  module _ (origin offset number : ℕ) where
+    pub does-sought : (u : Store) (k : ℕ) → ((w : World) → run (seek_from origin offset pos (length b)) w ≡ done k w) → Shows u (edited (seek n k) s) → Does (seek_on n origin offset) s u (in_number number) (in_number k) 0
     unfolding row_numbers
-    does-sought u k e h =
-        does-done (seek_on n origin offset) s u (number_reply k 0) (apply (seek n k) (world_of s)) (seek-moves n (world_of s) o.0 b pos o.1 bytes place origin offset k (q (world_of s) ∙ ap (seeks (world_of s)) e)) h
+    does-sought u k q h =
+        does-done (seek_on n origin offset) s u (number_reply k 0) (apply (seek n k) (world_of s)) (seek-moves n (world_of s) o.0 b pos o.1 bytes place origin offset k (q (world_of s))) h
         (in_number number) (in_number k) refl
 
-    pub does-nowhere : (st : Store) → Shows st s → r ≡ sought.Nowhere → Does (seek_on n origin offset) s st (in_number number) (in_number number) 13
-    does-nowhere st h e =
-        does-refused (seek_on n origin offset) s st h (in_number number) 13 (seek-stops n (world_of s) o.0 b pos o.1 bytes place origin offset 13 (q (world_of s) ∙ ap (seeks (world_of s)) e))
+    pub does-nowhere : (st : Store) → Shows st s → (e : ℕ) → ((w : World) → run (seek_from origin offset pos (length b)) w ≡ refused e) → Does (seek_on n origin offset) s st (in_number number) (in_number number) e
+    does-nowhere st h e q =
+        does-refused (seek_on n origin offset) s st h (in_number number) e (seek-stops n (world_of s) o.0 b pos o.1 bytes place origin offset e (q (world_of s)))

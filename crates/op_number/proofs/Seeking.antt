@@ -1,10 +1,10 @@
 -- Where a seek leads, by its origin. From the end, the exact sum of length and offset is that of the length and how far the offset is
 -- above or below 0.
 -- Assumes nothing.
-use Rattle.std.proofs.Common.{◌≡◌, ℕ, zero, suc, ◌+◌, ◌-◌, ◌%◌, ◌^◌, ◌<◌, ◌≤◌, Bool, true, false, ◌&&◌, ltb, leb, sym, refl, ap, ◌∙◌, arith, le-ltb, lt-ltb, le-leb}
+use Rattle.std.proofs.Common.{◌≡◌, ℕ, ◌+◌, ◌-◌, ◌%◌, ◌^◌, ◌<◌, ◌≤◌, Bool, true, false, ◌&&◌, ltb, leb, sym, ap, ◌∙◌, arith, le-ltb, lt-ltb, le-leb}
 use borrow.Author.Tests.{lt-leb}
 use Rattle.model.specs.Refusals.{bad_seek}
-use Rattle.model.specs.Prog.{World, ret, done, refused, run}
+use Rattle.model.specs.Prog.{World, Out, ret, done, refused, run}
 use Rattle.model.specs.Operations.Numbers.{sum_above, from_end, seek_from}
 use Rattle.model.proofs.Running.{allowed, need-run}
 
@@ -55,9 +55,7 @@ module _ (origin offset pos size : ℕ) (w : World) where
   unfolding seek_from run
   seek-here e k x = ap (λ (j : ℕ). run (seek_from j offset pos size) w) e ∙ ap (λ (j : ℕ). done j w) (sym x)
 
--- any other is the end, whatever the position
-pub seek-end : (origin offset pos size : ℕ) → (origin ≡ 0 → ⊥) → (origin ≡ 1 → ⊥) → (w : World) → run (seek_from origin offset pos size) w ≡ run (seek_from 2 offset 0 size) w
+-- from the end, whatever the position
+pub seek-end : (origin offset pos size : ℕ) (w : World) → origin ≡ 2 → (r : Out ℕ) → run (seek_from 2 offset 0 size) w ≡ r → run (seek_from origin offset pos size) w ≡ r
 unfolding seek_from
-seek-end zero offset pos size x y w = absurd (x refl)
-seek-end (suc zero) offset pos size x y w = absurd (y refl)
-seek-end (suc (suc k)) offset pos size x y w = refl
+seek-end origin offset pos size w e r x = ap (λ (k : ℕ). run (seek_from k offset pos size) w) e ∙ x

@@ -3,17 +3,32 @@ ghost use Rattle.std.specs.Prelude.{◌≡◌, ◌^◌, ◌<◌, length, take, d
 ghost use Rattle.model.specs.Operations.Numbers.{read_on, seek_on};
 ghost use Rattle.layout.specs.Lent.{◌∘◌, with_words, with_heads, with_bytes, still};
 ghost use Rattle.layout.specs.Lent.{◌&◌, on_words};
+ghost use Rattle.refusal.specs.Numbers.{answered};
 ghost use Rattle.store.specs.Shows.{Of};
 ghost use Rattle.op.specs.Lending.{in_bytes, in_number};
-ghost use Rattle.op_number.specs.Opened.{SomeOpen, OpenAnswered, PositionIs, SeekIs};
+ghost use Rattle.op_number.specs.Opened.{SomeOpen, OpenAnswered, PositionIs, origin_from, number_from, SeekIs};
 
-use blocks::copy_into;
+use refusal::Refusal;
 
-// Where a seek leads: to a position, or nowhere (13).
-#[derive(Drop)]
-pub enum Sought {
-    At(u64),
-    Nowhere,
+// From where a seek goes.
+#[derive(Clone, Copy, PartialEq, Eq)]
+pub enum Origin {
+    Start,
+    Position,
+    End,
+}
+
+// 0 the start, 1 the position, any other number the end.
+impl From<u32> for Origin {
+    ghost from_gives = { λ n o. o ≡ origin_from n };
+
+    fn from(n: u32) -> Origin {
+        match n {
+            0 => Origin::Start,
+            1 => Origin::Position,
+            _ => Origin::End,
+        }
+    }
 }
 
 // 2^63: an offset of so much or more stands for itself less 2^64.
@@ -23,24 +38,15 @@ const HALF: u64 = 9223372036854775808;
 fn position(words: &[u64], n: usize) -> u64
     ensures { Of (still (with_words words.now)) (λ _ s. PositionIs s n result) }
 {
-    match store::open(words, n) {
-        store::Number::Open(k) => k,
-        store::Number::Closed => 0,
-    }
+    store::open(words, n).unwrap_or(0)
 }
 
 // At most so many bytes of s, from the position on.
 fn behind<'a>(s: &'a [u8], pos: u64, most: usize) -> &'a [u8]
     ensures { result.now ≡ take most (drop pos s.now) }
 {
-    if s.len() as u64 <= pos {
-        return &s[..0];
-    }
-    let at = pos as usize;
-    if s.len() - at <= most {
-        return &s[at..];
-    }
-    &s[at..at + most]
+    let rest = &s[s.len().min(pos as usize)..];
+    &rest[..rest.len().min(most)]
 }
 
 // As many bytes as the buffer holds or the file has from the position on, which moves behind them.
@@ -51,51 +57,49 @@ pub fn read_on(
     n: usize,
     out: &mut [u8],
     number: &mut u64,
-) -> u32
+) -> Result<(), Refusal>
     requires { SomeOpen (with_words words.old ∘ with_heads heads.now ∘ with_bytes bytes.now) n }
     ensures { OpenAnswered (on_words words.old words.new & still (with_heads heads.now ∘ with_bytes bytes.now)) n (λ _. read_on n (length out.old))
-        (in_bytes out.old number.old 0) (in_bytes out.new number.new 0) result }
+        (in_bytes out.old number.old 0) (in_bytes out.new number.new 0) (answered result) }
 {
     let pos = position(words, n);
     let held = store::held(words, heads, bytes, n);
     let part = behind(held, pos, out.len());
     let k = part.len() as u64;
-    copy_into(out, 0, part);
+    out[..part.len()].copy_from_slice(part);
     store_edit::state::seek(words, n, pos + k);
     *number = k;
-    0
+    Ok(())
 }
 
 // The exact sum of a length and an offset, which may stand for a number below 0: 13 where it is below 0 or above 2^63 - 1.
-fn from_end(size: u64, offset: u64) -> Sought
+fn from_end(size: u64, offset: u64) -> Result<u64, Refusal>
     requires { size < 2 ^ 63 }
-    ensures { SeekIs 2 offset 0 size result }
+    ensures { SeekIs Origin.End offset 0 size result }
 {
     if offset < HALF {
         if HALF - size <= offset {
-            return Sought::Nowhere;
+            return Err(Refusal::BadSeek);
         }
-        return Sought::At(size + offset);
+        return Ok(size + offset);
     }
     let back = HALF - (offset - HALF);
     if size < back {
-        return Sought::Nowhere;
+        return Err(Refusal::BadSeek);
     }
-    Sought::At(size - back)
+    Ok(size - back)
 }
 
-// By the origin: 0 the start, 1 the position, any other the end.
-fn seek_from(origin: u32, offset: u64, pos: u64, size: u64) -> Sought
+// Where a seek leads.
+fn seek_from(origin: Origin, offset: u64, pos: u64, size: u64) -> Result<u64, Refusal>
     requires { size < 2 ^ 63 }
     ensures { SeekIs origin offset pos size result }
 {
-    if origin == 0 {
-        return Sought::At(offset);
+    match origin {
+        Origin::Start => Ok(offset),
+        Origin::Position => Ok(std::num::wrapping_add_u64(pos, offset)),
+        Origin::End => from_end(size, offset),
     }
-    if origin == 1 {
-        return Sought::At(std::num::wrapping_add_u64(pos, offset));
-    }
-    from_end(size, offset)
 }
 
 // The position is set, and answered.
@@ -104,22 +108,18 @@ pub fn seek_on(
     heads: &[u64],
     bytes: &[u8],
     n: usize,
-    origin: u32,
+    origin: Origin,
     offset: u64,
     number: &mut u64,
-) -> u32
+) -> Result<(), Refusal>
     requires { SomeOpen (with_words words.old ∘ with_heads heads.now ∘ with_bytes bytes.now) n }
-    ensures { OpenAnswered (on_words words.old words.new & still (with_heads heads.now ∘ with_bytes bytes.now)) n (λ _. seek_on n origin offset)
-        (in_number number.old) (in_number number.new) result }
+    ensures { OpenAnswered (on_words words.old words.new & still (with_heads heads.now ∘ with_bytes bytes.now)) n
+        (λ _. seek_on n (number_from origin) offset)
+        (in_number number.old) (in_number number.new) (answered result) }
 {
-    let pos = position(words, n);
     let size = store::held(words, heads, bytes, n).len() as u64;
-    match seek_from(origin, offset, pos, size) {
-        Sought::Nowhere => 13,
-        Sought::At(k) => {
-            store_edit::state::seek(words, n, k);
-            *number = k;
-            0
-        }
-    }
+    let place = seek_from(origin, offset, position(words, n), size)?;
+    store_edit::state::seek(words, n, place);
+    *number = place;
+    Ok(())
 }

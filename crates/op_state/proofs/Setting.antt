@@ -10,10 +10,11 @@ use Rattle.model.specs.Operations.Steps as model
 use Rattle.model.specs.Operations.Steps.{Reply, plain_reply, number_reply}
 use Rattle.model.specs.Operations.Directories.{set_current_dir_at, umask_to}
 use Rattle.model.specs.Calls.States.{State, world_of}
+use Rattle.std.specs.Prelude.{Ok, Err}
+use Rattle.refusal.specs.Numbers.{number_of}
+use Rattle.refusal.specs.declared.Refusal.{Refusal}
 use Rattle.layout.specs.Store.{Store}
-use Rattle.ask_find.specs.declared.Spot.{Spot}
-use Rattle.walk.specs.declared.leads.Led.{Led}
-use Rattle.walk.specs.declared.leads.Led.TheVariants as led
+use Rattle.walk.specs.declared.There as led
 use Rattle.walk.specs.Leads.{Leads}
 use Rattle.op.proofs.Leading.{led_there, led-refused, led-count}
 
@@ -25,14 +26,13 @@ umask-run m old w e = ap (λ (n : ℕ). done (number_reply n 0) (apply (umask m)
 abbrev goes : model.There → Prog Reply
 goes e = edits (go e.path) >> ret (plain_reply (length e.links))
 
-module _ (st : Store) (s : State) (b : ℕ) (text out : Bytes) (r : Led) (l : Leads (model.leads b) st s (world_of s) text out r) where
-  pub current-refused : (n : ℕ) → r ≡ led.Refused n → run (set_current_dir_at b (names text)) (world_of s) ≡ refused n
-  unfolding set_current_dir_at
-  current-refused n e = led-refused (model.leads b) st s text out r l n e goes
+pub current-refused : {st : Store} {s : State} (b : ℕ) {text out : Bytes} {e : Refusal} → Leads (model.leads b) st s (world_of s) text out (Err e)
+    → run (set_current_dir_at b (names text)) (world_of s) ≡ refused (number_of e)
+unfolding set_current_dir_at
+current-refused b l = led-refused l goes
 
-  pub current-set : (spot : Spot) (k n c : ℕ) → r ≡ led.There spot k n c
-      → run (set_current_dir_at b (names text)) (world_of s) ≡ done (plain_reply c) (apply (go (names (take n out))) (world_of s))
-  unfolding set_current_dir_at run ◌>>=◌ ◌>>◌
-  current-set spot k n c e =
-      led_there (model.leads b) st s text out r l spot k n c e goes
-      ∙ ap (λ (m : ℕ). done (plain_reply m) (apply (go (names (take n out))) (world_of s))) (led-count (model.leads b) st s text out r l spot k n c e)
+pub current-set : {st : Store} {s : State} (b : ℕ) {text out : Bytes} {t : led.There} → Leads (model.leads b) st s (world_of s) text out (Ok t)
+    → run (set_current_dir_at b (names text)) (world_of s) ≡ done (plain_reply t.links) (apply (go (names (take t.len out))) (world_of s))
+unfolding set_current_dir_at run ◌>>=◌ ◌>>◌
+current-set {s = s} b {out = out} {t = t} l =
+    led_there l goes ∙ ap (λ (m : ℕ). done (plain_reply m) (apply (go (names (take t.len out))) (world_of s))) (led-count l)

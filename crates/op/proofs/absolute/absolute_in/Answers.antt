@@ -4,4 +4,4 @@ use Rattle.op.proofs.Forming.{absolute_is}
 use Rattle.op.proofs.absolute.absolute_in.Goals as goal
 
 pub returns : goal.returns
-returns c = λ st s h. absolute_is s _ _ _ _ _ (c.here-here.ensures st s h) c.to_absolute_path.ensures
+returns c = λ st s h. absolute_is s _ _ _ _ _ (c.here.ensures st s h) c.to_absolute_path.ensures

@@ -7,14 +7,14 @@ use Rattle.op.proofs.Leading.{links-few, asked_whole, same_leads}
 use Rattle.op.proofs.at.leads.Goals as goal
 
 pub links-bound-requires : goal.links-bound-requires
-links-bound-requires c = let p = c.requires.0 in (with_bytes c.args.bytes.now p.0, p.1, p.2)
+links-bound-requires c = let p = c.requires.0 in (with_bytes c.args.tree.bytes.now p.0, p.1, p.2)
 
 pub leads-requires : goal.leads-requires
 leads-requires c =
-    let b = c in let p = b.requires.0 in let i = b.requires.1 in
-    (p, i.few, i.room, i.plain, omega (arith, links-few _ p.1 p.2, c.links-bound.ensures (with_bytes b.args.bytes.now p.0) p.1 p.2), omega arith)
+    let p = c.requires.0 in
+    (p, c.requires.1, omega (arith, links-few _ p.1 p.2, c.links-bound.ensures (with_bytes c.args.tree.bytes.now p.0) p.1 p.2), omega arith)
 
 pub returns : goal.returns
 returns c =
     λ st s h.
-    same_leads (c.links-bound.ensures (with_bytes c.args.bytes.now st) s h) (c.leads.ensures st s h (world_of s) (asked_whole _ s h))
+    same_leads (c.links-bound.ensures (with_bytes c.args.tree.bytes.now st) s h) (c.leads.ensures st s h (world_of s) (asked_whole _ s h))

@@ -1,13 +1,28 @@
 -- `form` meets its contract, by how the path is taken.
 -- Assumes nothing.
-use Rattle.op.proofs.Beginning.{given_none, as_any, as_named}
+use mathlib.Core.Path.{◌≡◌, sym, subst}
+use native.Mathlib.Omega.{arith}
+use lib.ListN.{length}
+use Rattle.std.proofs.Common.{rules}
+use Rattle.std.specs.Prelude.{Err}
+use Rattle.op.specs.Beginning.{Stops}
+use Rattle.refusal.specs.declared.Refusal.TheVariants.{PathTooLong}
+use Rattle.op.specs.declared.begin.Sort.TheVariants.{Named}
+use Rattle.op.proofs.Beginning.{given_none, as_taken, stops_at, stops-long}
+use Rattle.op.proofs.begin.form.Goals.{In_default, in_default-via-in-Named+else-path-eq0, in_default-via-in_default}
 use Rattle.op.proofs.begin.form.Goals as goal
 
-pub returns-then-path-eq0 : goal.returns-then-path-eq0
-returns-then-path-eq0 c = λ st s h. given_none s _ _ _ c.in-Named.is c.if-path-eq0.true
+pub returns-in-Named : goal.returns-in-Named
+returns-in-Named c = λ st s h. given_none s _ _ _ c.in-Named.is c.if-path-eq0.true
 
-pub returns-in-Any : goal.returns-in-Any
-returns-in-Any c = λ st s h. as_any s _ _ _ _ c.in-Any.is (c.made.ensures st s h)
+-- a path that is empty is taken as any is
+filled : (c : In_default) → c.args.sort ≡ Named → length c.args.path.now ≡ 0 → ⊥
+filled c e z = elim c.in_default.branch [ in_default-via-in-Named+else-path-eq0 w ↦ w.if-path-eq0.false z | in_default-via-in_default w ↦ w.in_default.not-Named e ]
 
-pub returns-else-path-eq0 : goal.returns-else-path-eq0
-returns-else-path-eq0 c = λ st s h. as_named s _ _ _ _ c.in-Named.is c.if-path-eq0.false (c.made-in-Named.ensures st s h)
+pub returns-in_err-absolute_in-in_default : goal.returns-in_err-absolute_in-in_default
+returns-in_err-absolute_in-in_default c =
+    let e : c.from_residual.result ≡ Err PathTooLong = search rules in
+    λ st s h. subst (Stops s _ _ _) (sym e) (as_taken s _ _ _ _ (filled (goal.at.returns-in_err-absolute_in-in_default c).In_default) (stops-long (c.in_err-absolute_in-in_default.ensures st s h)))
+
+pub returns-in_ok-absolute_in-in_default : goal.returns-in_ok-absolute_in-in_default
+returns-in_ok-absolute_in-in_default c = λ st s h. as_taken s _ _ _ _ (filled (goal.at.returns-in_ok-absolute_in-in_default c).In_default) (stops_at (c.in_ok-absolute_in-in_default.ensures st s h) (omega (arith, c.absolute_in.auto.out)))

@@ -1,10 +1,15 @@
 -- `read_at` meets its contract, by what the lookup came to.
 -- Assumes nothing.
+use denote.Enum.Bare.{differs_true, differs_false}
+use Rattle.std.proofs.Common.{◌≡◌, rules, refl, sym}
+use Rattle.layout.specs.contracts.kind.Kind.{the_type}
+use Rattle.std.specs.Prelude.{Err}
 use Prim.Native.Nat.{◌≤◌}
 use native.Mathlib.Omega.{arith}
 use lib.ListN.{length}
-use Rattle.op.proofs.Doing.{does-refused}
-use Rattle.op_look.proofs.Reading.{bytes-refused, bytes-told, look-stands, look-count, read-refused, read-no-name, read-missing, read-root, read-wrong, read-file}
+use Rattle.op.proofs.Calling.{not-zero}
+use Rattle.op.proofs.Doing.{does-refused, does-err}
+use Rattle.op_look.proofs.Reading.{bytes-refused, bytes-told, as_looked, read-refused, read-no-name, read-missing, read-root, read-wrong, read-file}
 use Rattle.op_look.proofs.contents.read_at.Goals.{After-lookup}
 use Rattle.op_look.proofs.contents.read_at.Goals as goal
 
@@ -12,29 +17,36 @@ use Rattle.op_look.proofs.contents.read_at.Goals as goal
 room : (c : After-lookup) → 1024 ≤ length c.lookup.new.work
 room c = omega (arith, c.requires.1.room, c.lookup.auto.work)
 
-pub returns-then-n-eq0 : goal.returns-then-n-eq0
-returns-then-n-eq0 c = λ st s h. does-refused _ s _ h _ _ (read-no-name _ s _ _ _ _ _ (c.lookup.ensures st s h) _ _ _ _ _ c.in-Missing.is c.if-n-eq0.true)
+pub returns-in_err-looked : goal.returns-in_err-looked
+returns-in_err-looked c =
+    let e : c.from_residual.result ≡ Err c.in_err-looked.field-0.0 = search rules in
+    λ st s h. does-err e (does-refused _ s _ h _ _ (read-refused _ (c.in_err-looked.ensures st s h)))
 
-pub returns-then-n-eq0-2 : goal.returns-then-n-eq0-2
-returns-then-n-eq0-2 c = λ st s h. does-refused _ s _ h _ _ (read-root _ s _ _ _ _ _ (c.lookup.ensures st s h) _ _ _ _ _ c.in-Found.is c.if-n-eq0-2.true)
+pub returns-then-absent-eq0 : goal.returns-then-absent-eq0
+returns-then-absent-eq0 c = λ st s h. does-refused _ s _ h _ _ (read-no-name _ (as_looked c.in-Missing.is (c.in_ok-looked.ensures st s h)) c.if-absent-eq0.true)
 
-pub returns-then-kind-ne1 : goal.returns-then-kind-ne1
-returns-then-kind-ne1 c = λ st s h. does-refused _ s _ h _ _ (read-wrong _ s _ _ _ _ _ (c.lookup.ensures st s h) _ _ _ _ _ c.in-Found.is c.if-n-eq0-2.false (room (goal.at.returns-then-kind-ne1 c).After-lookup) c.if-kind-ne1.true)
+pub returns-else-absent-eq0 : goal.returns-else-absent-eq0
+returns-else-absent-eq0 c =
+    λ st s h. does-refused _ s _ h _ _ (read-missing _ (as_looked c.in-Missing.is (c.in_ok-looked.ensures st s h)) c.if-absent-eq0.false (room (goal.at.returns-else-absent-eq0 c).After-lookup))
 
-pub returns-then-r-ne0 : goal.returns-then-r-ne0
-returns-then-r-ne0 c =
-    λ st s h. let l = c.lookup.ensures st s h in let x = c.in-Found.is in
-    bytes-refused _ s _ h _ _ _ _ _ _ _ _ (read-file _ s _ _ _ _ _ l _ _ _ _ _ x c.if-n-eq0-2.false (room (goal.at.returns-then-r-ne0 c).After-lookup) c.if-kind-ne1.false _ (c.contents-contents.ensures st s h _ (look-stands _ s _ _ _ _ _ l _ _ _ _ x)))
-    c.put_bytes-r.ensures c.if-r-ne0.true
+pub returns-then-there-eq0 : goal.returns-then-there-eq0
+returns-then-there-eq0 c = λ st s h. does-refused _ s _ h _ _ (read-root _ (as_looked c.in-Found.is (c.in_ok-looked.ensures st s h)) c.if-there-eq0.true)
 
-pub returns-in-Refused : goal.returns-in-Refused
-returns-in-Refused c = λ st s h. does-refused _ s _ h _ _ (read-refused _ s _ _ _ _ _ (c.lookup.ensures st s h) _ _ c.in-Refused.is)
+pub returns-then-ne : goal.returns-then-ne
+returns-then-ne c =
+    λ st s h. does-refused _ s _ h _ _ (read-wrong _ (as_looked c.in-Found.is (c.in_ok-looked.ensures st s h)) c.if-there-eq0.false (room (goal.at.returns-then-ne c).After-lookup) (differs_true the_type _ _ (sym c.if-ne.ensures)))
 
-pub returns-else-n-eq0 : goal.returns-else-n-eq0
-returns-else-n-eq0 c = λ st s h. does-refused _ s _ h _ _ (read-missing _ s _ _ _ _ _ (c.lookup.ensures st s h) _ _ _ _ _ c.in-Missing.is c.if-n-eq0.false (room (goal.at.returns-else-n-eq0 c).After-lookup))
+pub returns-in_err-put_bytes : goal.returns-in_err-put_bytes
+returns-in_err-put_bytes c =
+    let e : c.from_residual-in_err-put_bytes.result ≡ Err c.in_err-put_bytes.field-0.0 = search rules in
+    λ st s h. does-err e (let l = as_looked c.in-Found.is (c.in_ok-looked.ensures st s h) in
+    bytes-refused _ s _ h _ _ _ _ _ _ _ _
+    (read-file _ l c.if-there-eq0.false (room (goal.at.returns-in_err-put_bytes c).After-lookup) (differs_false the_type (search rules) _ _ (sym c.if-ne.ensures)) _ (c.contents-contents.ensures st s h _ l.place.1.at))
+    c.in_err-put_bytes.ensures (not-zero _))
 
-pub returns-else-r-ne0 : goal.returns-else-r-ne0
-returns-else-r-ne0 c =
-    λ st s h. let l = c.lookup.ensures st s h in let x = c.in-Found.is in
-    bytes-told _ s _ h _ _ _ _ _ _ _ _ (read-file _ s _ _ _ _ _ l _ _ _ _ _ x c.if-n-eq0-2.false (room (goal.at.returns-else-r-ne0 c).After-lookup) c.if-kind-ne1.false _ (c.contents-contents.ensures st s h _ (look-stands _ s _ _ _ _ _ l _ _ _ _ x)))
-    c.put_bytes-r.ensures c.if-r-ne0.false _ (look-count _ s _ _ _ _ _ l _ _ _ _ x)
+pub returns : goal.returns
+returns c =
+    λ st s h. let l = as_looked c.in-Found.is (c.in_ok-looked.ensures st s h) in
+    bytes-told _ s _ h _ _ _ _ _ _ _ _
+    (read-file _ l c.if-there-eq0.false (room (goal.at.returns c).After-lookup) (differs_false the_type (search rules) _ _ (sym c.if-ne.ensures)) _ (c.contents-contents.ensures st s h _ l.place.1.at))
+    c.in_ok-put_bytes.ensures refl _ l.place.0.counted

@@ -1,29 +1,31 @@
 -- `metadata_at` meets its contract, by what the path leads to.
 -- Assumes nothing.
+use Rattle.std.proofs.Common.{◌≡◌, rules, refl}
+use Rattle.std.specs.Prelude.{Err}
 use Rattle.layout.specs.Lent.{with_times, with_bytes}
-use Rattle.op.proofs.Doing.{does-refused}
+use Rattle.op.proofs.Calling.{not-zero}
+use Rattle.op.proofs.Doing.{does-refused, does-err}
 use Rattle.op.proofs.Leading.{led-stands, led-count}
 use Rattle.op_look.proofs.Showing.{row-refused, row-shown, metadata-refused, metadata_there}
 use Rattle.op_look.proofs.metadata.metadata_at.Goals as goal
 
-pub leads-requires : goal.leads-requires
-leads-requires c = let p = c.requires.0 in ((with_times c.args.times.now p.0, p.1, p.2), c.requires.1)
+pub returns-in_err-there : goal.returns-in_err-there
+returns-in_err-there c =
+    let e : c.from_residual.result ≡ Err c.in_err-there.field-0.0 = search rules in
+    λ st s h. does-err e (does-refused _ s _ h _ _ (metadata-refused _ _ (c.in_err-there.ensures (with_times c.args.times.now st) s h)))
 
-pub show-r-requires : goal.show-r-requires
-show-r-requires c =
-    let b = c in let p = b.requires.0 in let l = c.leads.ensures (with_times b.args.times.now p.0) p.1 p.2 in
-    (with_bytes b.args.bytes.now p.0, p.1, _, p.2, led-stands _ _ p.1 _ _ _ l _ _ _ _ c.in-There.is)
+pub show-requires : goal.show-requires
+show-requires c =
+    let p = c.requires.0 in let a = c.args in
+    (with_bytes a.tree.bytes.now p.0, p.1, _, p.2, led-stands (c.in_ok-there.ensures (with_times a.times.now p.0) p.1 p.2))
 
-pub returns-then-r-ne0 : goal.returns-then-r-ne0
-returns-then-r-ne0 c =
-    λ st s h. let b = c in let l = c.leads.ensures (with_times b.args.times.now st) s h in let x = c.in-There.is in
-    row-refused _ s _ h _ _ _ _ _ _ (metadata_there _ s _ _ _ _ _ l _ _ _ _ x) (c.show-r.ensures (with_bytes b.args.bytes.now st) s h _ (led-stands _ _ s _ _ _ l _ _ _ _ x)) c.if-r-ne0.true
+pub returns-in_err-show : goal.returns-in_err-show
+returns-in_err-show c =
+    let e : c.from_residual-in_err-show.result ≡ Err c.in_err-show.field-0.0 = search rules in
+    λ st s h. does-err e (let a = c.args in let l = c.in_ok-there.ensures (with_times a.times.now st) s h in
+    row-refused _ s _ h _ _ _ _ _ _ (metadata_there _ _ l) (c.in_err-show.ensures (with_bytes a.tree.bytes.now st) s h _ (led-stands l)) (not-zero _))
 
-pub returns-in-Refused : goal.returns-in-Refused
-returns-in-Refused c = λ st s h. does-refused _ s _ h _ _ (metadata-refused _ s _ _ _ _ _ (c.leads.ensures (with_times c.args.times.now st) s h) _ c.in-Refused.is)
-
-pub returns-else-r-ne0 : goal.returns-else-r-ne0
-returns-else-r-ne0 c =
-    λ st s h. let b = c in let l = c.leads.ensures (with_times b.args.times.now st) s h in let x = c.in-There.is in
-    row-shown _ s _ h _ _ _ _ _ _ (metadata_there _ s _ _ _ _ _ l _ _ _ _ x) (c.show-r.ensures (with_bytes b.args.bytes.now st) s h _ (led-stands _ _ s _ _ _ l _ _ _ _ x)) c.if-r-ne0.false _
-    (led-count _ _ s _ _ _ l _ _ _ _ x)
+pub returns : goal.returns
+returns c =
+    λ st s h. let a = c.args in let l = c.in_ok-there.ensures (with_times a.times.now st) s h in
+    row-shown _ s _ h _ _ _ _ _ _ (metadata_there _ _ l) (c.in_ok-show.ensures (with_bytes a.tree.bytes.now st) s h _ (led-stands l)) refl _ (led-count l)

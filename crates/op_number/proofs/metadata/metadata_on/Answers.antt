@@ -1,28 +1,42 @@
 -- `metadata_on` meets its contract: the kept path stands in front of the working buffer, and metadata is asked there.
 -- Assumes nothing.
-use Rattle.std.proofs.Common.{refl, arith}
+use Prim.Native.Nat.{◌≤◌}
+use lib.ListN.{length}
+use lib.Seq.{length-take-le}
+use Rattle.std.proofs.Common.{refl, arith, sym, ap, length-append, length-drop}
 use Rattle.model.specs.Calls.States.{world_of}
 use Rattle.edit_state.proofs.Cells.{cell-fits}
-use Rattle.layout.specs.Lent.{with_records, with_heads, with_times, with_paths, with_bytes}
+use Rattle.layout.specs.Lent.{lent_by}
 use Rattle.op.proofs.Calling.{same_run}
+use Rattle.op.proofs.Cutting.{shows_as, with-times-too}
+use Rattle.op.proofs.Doing.{does-left}
 use Rattle.op_number.proofs.Keeping.{kept_in_lem, kept_run}
+use Rattle.op_number.proofs.metadata.metadata_on.Goals.{After-kept-kept}
 use Rattle.op_number.proofs.metadata.metadata_on.Goals as goal
 
-pub copy_into-requires : goal.copy_into-requires
-copy_into-requires c =
-    let b = c in let a = b.args in let p = b.requires.0 in
-    let v = with_records a.records.now (with_heads a.heads.now (with_times a.times.now (with_bytes a.bytes.now p.0))) in
-    omega (arith, cell-fits _ (c.kept-kept.ensures v p.1 p.2 p.3.0 p.3.1).kept, b.requires.1)
+-- the kept path fits into the working buffer
+fits : (c : After-kept-kept) → length c.kept-kept.result.now ≤ length c.args.work.now
+fits c = let p = c.requires.0 in omega (arith, cell-fits _ (c.kept-kept.ensures (lent_by c.args.lent) p.1 p.2 p.3.0 p.3.1).kept, c.requires.1)
+
+pub slice_bounds-copy_from_slice-end : goal.slice_bounds-copy_from_slice-end
+slice_bounds-copy_from_slice-end c = fits (goal.at.slice_bounds-copy_from_slice-end c).After-kept-kept
+
+pub slice_bounds-copy_from_slice-end-2 : goal.slice_bounds-copy_from_slice-end-2
+slice_bounds-copy_from_slice-end-2 c = sym (length-take-le _ _ (fits (goal.at.slice_bounds-copy_from_slice-end-2 c).After-kept-kept))
+
+pub copy_from_slice-requires : goal.copy_from_slice-requires
+copy_from_slice-requires c = length-take-le _ _ (fits (goal.at.copy_from_slice-requires c).After-kept-kept)
 
 pub metadata_at-requires : goal.metadata_at-requires
 metadata_at-requires c =
-    let b = c in let a = b.args in let p = b.requires.0 in
-    let v = with_records a.records.now (with_heads a.heads.now (with_times a.times.now (with_bytes a.bytes.now p.0))) in
-    ((with_paths a.paths.now p.0, p.1, p.2), kept_in_lem _ _ _ _ (c.kept-kept.ensures v p.1 p.2 p.3.0 p.3.1) c.copy_into.ensures (omega (arith, c.copy_into.auto.dst, b.requires.1)))
+    let p = c.requires.0 in let u = c.args.lent in let f = fits (goal.at.metadata_at-requires c).After-kept-kept in (
+      (lent_by u, p.1, shows_as (with-times-too u c.tree_of.ensures) p.2),
+      kept_in_lem _ _ _ _ (c.kept-kept.ensures (lent_by u) p.1 p.2 p.3.0 p.3.1) c.copy_from_slice.ensures.after
+          (simp (length-append, length-drop) (omega (arith, ap length c.copy_from_slice.ensures.after, f, c.requires.1))),
+    )
 
 pub returns : goal.returns
 returns c =
-    λ st s h o. let a = c.args in
-    let v = with_records a.records.now (with_heads a.heads.now (with_times a.times.now (with_bytes a.bytes.now st))) in
-    same_run (kept_run _ _ _ _ (c.kept-kept.ensures v s h o.0 o.1) c.copy_into.ensures _ _ _ (world_of s) o.0 o.1 refl)
-    (c.metadata_at.ensures (with_paths a.paths.now st) s h)
+    λ st s h o. let u = c.args.lent in let e = with-times-too u c.tree_of.ensures in
+    same_run (kept_run _ _ c.args.work.now _ (c.kept-kept.ensures (lent_by u) s h o.0 o.1) c.copy_from_slice.ensures.after _ _ _ (world_of s) o.0 o.1 refl)
+    (does-left e (c.metadata_at.ensures (lent_by u) s (shows_as e h)))

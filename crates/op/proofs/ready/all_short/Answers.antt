@@ -1,0 +1,13 @@
+-- `all_short` meets its contract: the test of each length.
+-- Assumes nothing.
+use Rattle.std.proofs.Common.{rules, tests, ◌∙◌}
+use Rattle.std.proofs.lemmas.Iterator.{YieldsList-from_slice}
+use Rattle.std.proofs.lemmas.Iterator.Search.{all_from_yields_List}
+use Rattle.path.specs.Path.{lengths_ok}
+use Rattle.op.proofs.Screening.{all-texts}
+use Rattle.op.proofs.ready.all_short.Goals as goal
+
+pub returns : goal.returns
+returns c =
+    all_from_yields_List (λ t. lengths_ok t.now) _ _ _ c.all.ensures.ran (YieldsList-from_slice c.args.texts.now cc) (λ x b q k. search (rules, tests))
+    ∙ all-texts lengths_ok c.args.texts.now
