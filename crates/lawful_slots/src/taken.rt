@@ -60,11 +60,13 @@ pub fn take_open(words: &[u64], heads: &[u64], taken: &mut [u8; MOST_SLOTS]) -> 
     Some(more)
 }
 
-// How many words are not 0.
-// kept: a sum of ones; a filter that is counted takes three times as long
+// How many words are not 0. (Ones are added up: a filter that is counted takes three times as long.)
 pub fn in_use(heads: &[u64]) -> usize
-    requires { length heads.now ≤ most_slots }
     ensures { result ≡ filled heads.now }
 {
-    heads.iter().map(|h| usize::from(*h != 0)).sum()
+    let mut n = 0;
+    for h in heads {
+        n += usize::from(*h != 0);
+    }
+    n
 }
