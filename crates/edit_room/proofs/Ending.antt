@@ -26,14 +26,6 @@ use Rattle.lawful.proofs.Slotting.{rows_within, number-stands}
 
 -- ---- words that are 0
 
--- one word more in front of those that are 0 to the end
-pub zeros_one : (heads : List ℕ) (e : ℕ) → 0 < e → get_or heads (e - 1) 0 ≡ 0 → ((k : ℕ) → e ≤ k → get_or heads k 0 ≡ 0) → (k : ℕ) → e - 1 ≤ k → get_or heads k 0 ≡ 0
-zeros_one heads e p z f k l = go (ltb k e) refl
-  where
-    go : (t : Bool) → ltb k e ≡ t → get_or heads k 0 ≡ 0
-    go true q = let x : e - 1 ≡ k = omega (arith, ltb-true k e q) in rw x at z
-    go false q = f k (ltb-false k e q)
-
 total-end : (hs : List ℕ) (n : ℕ) → ((k : ℕ) → n ≤ k → get_or hs k 0 ≡ 0) → total (take n hs) ≡ total hs
 unfolding total
 total-end [] zero z = refl

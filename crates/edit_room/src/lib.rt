@@ -27,15 +27,10 @@ fn used_end(heads: &[u64]) -> usize
     ensures { (result ≤ length heads.now) × ((k : ℕ) → result ≤ k → get_or heads.now k 0 ≡ 0)
         × (0 < result → get_or heads.now (result - 1) 0 ≡ 0 → ⊥) }
 {
-    let mut e = heads.len();
-    while 0 < e {
-        let k = e - 1;
-        if heads[k] != 0 {
-            return e;
-        }
-        e = k;
+    match heads.iter().rposition(|w| *w != 0) {
+        Some(last) => last + 1,
+        None => 0,
     }
-    e
 }
 
 // The free slots at the end are given up.
