@@ -19,7 +19,8 @@ use layout::{COUNT_AT, EXTENT_AT, depth_of};
 
 // The entry `name` at the gap: the model's make, create or symlink.
 pub fn insert(l: Entries, heads: &mut [u64], gap: Gap, name: &[u8], made: Made, new: Fresh) -> Spot
-    requires { SomeState (with_entries l ∘ with_heads heads.old) (λ st s. (d : Path) × MayMake name.now gap (insertion made new) st s d) × T (name_ok name.now) × Holds made }
+    requires { SomeState (with_entries l ∘ with_heads heads.old) (λ st s. (d : Path) × MayMake name.now gap (insertion made new) st s d)
+        × T (name_ok name.now) × Holds made }
     ensures { On (on_entries l.entry l.exit & on_heads heads.old heads.new) (Makes name.now gap (insertion made.entry new) result) }
 {
     let Entries {
