@@ -4,8 +4,10 @@ ghost use Rattle.layout.specs.Lent.{lends};
 ghost use Rattle.setup.specs.SetUp.{IsSetUp};
 ghost use Rattle.op.specs.Telling.{Told, HereIs, UsageIs, in_slot, NumberIs};
 
-use layout::{FILE_NUMBERS, MOST_AT, PATHS_BYTES, WORD_COUNT};
+use layout::slices::Slices;
+use op::parts::used;
 use op_back::{tell_here, tell_number, tell_usage};
+use refusal::{Refusal, answer};
 use setup::set_up;
 
 // A fresh store of those limits; or 15 or 16. Only the state's words are written; the other slices are lent to be written later, and C
@@ -24,7 +26,7 @@ pub extern "C" fn jobtree_set_up(
     ensures { IsSetUp most room (lends words.old records.old heads.old times.old paths.old bytes.old)
         (lends words.new records.new heads.new times.new paths.new bytes.new) result }
 {
-    set_up(words, records, heads, times, paths, bytes, most, room)
+    answer(set_up(words, records, heads, times, paths, bytes, most, room))
 }
 
 // The path of the current directory.
@@ -43,10 +45,19 @@ pub extern "C" fn jobtree_current_dir(
         (HereIs out.old number.old out.new number.new result)
         ((out.new ≡ out.old) × (number.new ≡ number.old)) result }
 {
-    if !lawful::store_ok(words, records, heads, times, paths, bytes) {
-        return 1;
+    let lent = Slices {
+        words,
+        records,
+        heads,
+        times,
+        paths,
+        bytes,
+    };
+    if !lawful::store_ok(lent) {
+        return Refusal::BadStore.number();
     }
-    tell_here(&words[..WORD_COUNT], &paths[..PATHS_BYTES], out, number)
+    let used = used(lent);
+    answer(tell_here(used.words, used.paths, out, number))
 }
 
 // Umask, entry limit, byte limit, entries used and bytes used.
@@ -63,17 +74,19 @@ pub extern "C" fn jobtree_usage(
     ensures { Told (lends words.now records.now heads.now times.now paths.now bytes.now) (UsageIs numbers.old numbers.new result)
         (numbers.new ≡ numbers.old) result }
 {
-    if !lawful::store_ok(words, records, heads, times, paths, bytes) {
-        return 1;
+    let lent = Slices {
+        words,
+        records,
+        heads,
+        times,
+        paths,
+        bytes,
+    };
+    if !lawful::store_ok(lent) {
+        return Refusal::BadStore.number();
     }
-    let most = words[MOST_AT] as usize;
-    let slots = most + FILE_NUMBERS;
-    tell_usage(
-        &words[..WORD_COUNT],
-        &records[..most],
-        &heads[..slots],
-        numbers,
-    )
+    let used = used(lent);
+    answer(tell_usage(used.words, used.records, used.heads, numbers))
 }
 
 // Whether a file number is open, its position, and the path kept at open.
@@ -96,15 +109,17 @@ pub extern "C" fn jobtree_number(
         (in_slot out.new position.new size.new
         ≡ in_slot out.old position.old size.old) result }
 {
-    if !lawful::store_ok(words, records, heads, times, paths, bytes) {
-        return 1;
+    let lent = Slices {
+        words,
+        records,
+        heads,
+        times,
+        paths,
+        bytes,
+    };
+    if !lawful::store_ok(lent) {
+        return Refusal::BadStore.number();
     }
-    tell_number(
-        &words[..WORD_COUNT],
-        &paths[..PATHS_BYTES],
-        n as usize,
-        out,
-        position,
-        size,
-    )
+    let used = used(lent);
+    answer(tell_number(used.words, used.paths, n as usize, out, position, size))
 }

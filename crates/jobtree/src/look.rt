@@ -2,68 +2,36 @@
 // the call itself, which then clears both working buffers.
 ghost use Rattle.std.specs.Prelude.{◌/◌, length};
 ghost use Rattle.model.specs.Calls.Calling as op;
-ghost use Rattle.layout.specs.Lent.{lends};
+ghost use Rattle.refusal.specs.Numbers.{answered};
+ghost use Rattle.layout.specs.Lent.{lends, lent_by};
 ghost use Rattle.layout.specs.Answers.{Answers};
 ghost use Rattle.op.specs.Lending.{call_with, in_bytes, in_rows, in_both};
 ghost use Rattle.op.specs.Doing.{Done};
 
-use layout::{FILE_NUMBERS, MOST_AT, ROOM_AT, WORD_COUNT};
-use op::begin::{Begun, Sort, begin};
-use op::clear::clear;
+use layout::slices::Slices;
+use op::begin::{Sort, begin};
+use op::clear::finish;
+use op::parts::{tree_of, used};
 use op_look::contents::{canonicalize_at, read_at, read_link_at};
 use op_look::list::list_at;
 use op_look::metadata::{metadata_at, symlink_metadata_at};
+use refusal::Refusal;
 
 // The record of the entry that the path leads to.
 fn metadata(
-    words: &[u64],
-    records: &[u64],
-    heads: &[u64],
-    times: &[i64],
-    paths: &[u8],
-    bytes: &[u8],
+    lent: Slices,
     first: &mut [u8],
     second: &[u8],
     path: &[u8],
     rows: &mut [i64],
     links: &mut u64,
-) -> u32
-    ensures { Done
-        (call_with (op.metadata path.now (length rows.old / 7))
-        (in_rows rows.old links.old) first.old second.now)
-        (lends words.now records.now heads.now times.now paths.now bytes.now) (lends words.now records.now heads.now times.now paths.now bytes.now)
-        (in_rows rows.new links.new) result }
+) -> Result<(), Refusal>
+    ensures { Done (call_with (op.metadata path.now (length rows.old / 7)) (in_rows rows.old links.old) first.old second.now)
+        (lent_by lent.entry) (lent_by lent.entry) (in_rows rows.new links.new) (answered result) }
 {
-    match begin(
-        words,
-        records,
-        heads,
-        times,
-        paths,
-        bytes,
-        first,
-        second,
-        path,
-        Sort::Any,
-    ) {
-        Begun::Refused(r) => r,
-        Begun::At(n) => {
-            let most = words[MOST_AT] as usize;
-            let room = words[ROOM_AT] as usize;
-            let slots = most + FILE_NUMBERS;
-            metadata_at(
-                &words[..WORD_COUNT],
-                &records[..most],
-                &heads[..slots],
-                &times[..4 * slots],
-                &bytes[..room],
-                first,
-                n,
-                rows,
-                links,
-            )
-        }
-    }
+    let n = begin(lent, first, second, path, Sort::Any)?;
+    let used = used(lent);
+    metadata_at(tree_of(used), used.times, first, n, rows, links)
 }
 
 #[unsafe(no_mangle)]
@@ -87,64 +55,36 @@ pub extern "C" fn jobtree_metadata(
         (in_rows rows.new links.new)
         first.new second.new result }
 {
-    let r = metadata(
-        words, records, heads, times, paths, bytes, first, second, path, rows, links,
-    );
-    clear(first);
-    clear(second);
-    r
-}
-
-// The record of the entry itself.
-fn symlink_metadata(
-    words: &[u64],
-    records: &[u64],
-    heads: &[u64],
-    times: &[i64],
-    paths: &[u8],
-    bytes: &[u8],
-    first: &mut [u8],
-    second: &[u8],
-    path: &[u8],
-    rows: &mut [i64],
-    links: &mut u64,
-) -> u32
-    ensures { Done
-        (call_with (op.symlink_metadata path.now (length rows.old / 7))
-        (in_rows rows.old links.old) first.old second.now)
-        (lends words.now records.now heads.now times.now paths.now bytes.now) (lends words.now records.now heads.now times.now paths.now bytes.now)
-        (in_rows rows.new links.new) result }
-{
-    match begin(
+    let lent = Slices {
         words,
         records,
         heads,
         times,
         paths,
         bytes,
+    };
+    finish(
+        metadata(lent, first, second, path, rows, links),
         first,
         second,
-        path,
-        Sort::Any,
-    ) {
-        Begun::Refused(r) => r,
-        Begun::At(n) => {
-            let most = words[MOST_AT] as usize;
-            let room = words[ROOM_AT] as usize;
-            let slots = most + FILE_NUMBERS;
-            symlink_metadata_at(
-                &words[..WORD_COUNT],
-                &records[..most],
-                &heads[..slots],
-                &times[..4 * slots],
-                &bytes[..room],
-                first,
-                n,
-                rows,
-                links,
-            )
-        }
-    }
+    )
+}
+
+// The record of the entry itself.
+fn symlink_metadata(
+    lent: Slices,
+    first: &mut [u8],
+    second: &[u8],
+    path: &[u8],
+    rows: &mut [i64],
+    links: &mut u64,
+) -> Result<(), Refusal>
+    ensures { Done (call_with (op.symlink_metadata path.now (length rows.old / 7)) (in_rows rows.old links.old) first.old second.now)
+        (lent_by lent.entry) (lent_by lent.entry) (in_rows rows.new links.new) (answered result) }
+{
+    let n = begin(lent, first, second, path, Sort::Any)?;
+    let used = used(lent);
+    symlink_metadata_at(tree_of(used), used.times, first, n, rows, links)
 }
 
 #[unsafe(no_mangle)]
@@ -168,65 +108,36 @@ pub extern "C" fn jobtree_symlink_metadata(
         (in_rows rows.new links.new)
         first.new second.new result }
 {
-    let r = symlink_metadata(
-        words, records, heads, times, paths, bytes, first, second, path, rows, links,
-    );
-    clear(first);
-    clear(second);
-    r
-}
-
-// The target of a link.
-fn read_link(
-    words: &[u64],
-    records: &[u64],
-    heads: &[u64],
-    times: &[i64],
-    paths: &[u8],
-    bytes: &[u8],
-    first: &mut [u8],
-    second: &[u8],
-    path: &[u8],
-    out: &mut [u8],
-    number: &mut u64,
-    links: &mut u64,
-) -> u32
-    ensures { Done
-        (call_with (op.read_link path.now (length out.old))
-        (in_bytes out.old number.old links.old) first.old second.now)
-        (lends words.now records.now heads.now times.now paths.now bytes.now) (lends words.now records.now heads.now times.now paths.now bytes.now)
-        (in_bytes out.new number.new links.new) result }
-{
-    match begin(
+    let lent = Slices {
         words,
         records,
         heads,
         times,
         paths,
         bytes,
+    };
+    finish(
+        symlink_metadata(lent, first, second, path, rows, links),
         first,
         second,
-        path,
-        Sort::Any,
-    ) {
-        Begun::Refused(r) => r,
-        Begun::At(n) => {
-            let most = words[MOST_AT] as usize;
-            let room = words[ROOM_AT] as usize;
-            let slots = most + FILE_NUMBERS;
-            read_link_at(
-                &words[..WORD_COUNT],
-                &records[..most],
-                &heads[..slots],
-                &bytes[..room],
-                first,
-                n,
-                out,
-                number,
-                links,
-            )
-        }
-    }
+    )
+}
+
+// The target of a link.
+fn read_link(
+    lent: Slices,
+    first: &mut [u8],
+    second: &[u8],
+    path: &[u8],
+    out: &mut [u8],
+    number: &mut u64,
+    links: &mut u64,
+) -> Result<(), Refusal>
+    ensures { Done (call_with (op.read_link path.now (length out.old)) (in_bytes out.old number.old links.old) first.old second.now)
+        (lent_by lent.entry) (lent_by lent.entry) (in_bytes out.new number.new links.new) (answered result) }
+{
+    let n = begin(lent, first, second, path, Sort::Any)?;
+    read_link_at(tree_of(used(lent)), first, n, out, number, links)
 }
 
 #[unsafe(no_mangle)]
@@ -251,65 +162,36 @@ pub extern "C" fn jobtree_read_link(
         (in_bytes out.new number.new links.new)
         first.new second.new result }
 {
-    let r = read_link(
-        words, records, heads, times, paths, bytes, first, second, path, out, number, links,
-    );
-    clear(first);
-    clear(second);
-    r
-}
-
-// The contents of a file.
-fn read(
-    words: &[u64],
-    records: &[u64],
-    heads: &[u64],
-    times: &[i64],
-    paths: &[u8],
-    bytes: &[u8],
-    first: &mut [u8],
-    second: &[u8],
-    path: &[u8],
-    out: &mut [u8],
-    number: &mut u64,
-    links: &mut u64,
-) -> u32
-    ensures { Done
-        (call_with (op.read_file path.now (length out.old))
-        (in_bytes out.old number.old links.old) first.old second.now)
-        (lends words.now records.now heads.now times.now paths.now bytes.now) (lends words.now records.now heads.now times.now paths.now bytes.now)
-        (in_bytes out.new number.new links.new) result }
-{
-    match begin(
+    let lent = Slices {
         words,
         records,
         heads,
         times,
         paths,
         bytes,
+    };
+    finish(
+        read_link(lent, first, second, path, out, number, links),
         first,
         second,
-        path,
-        Sort::Any,
-    ) {
-        Begun::Refused(r) => r,
-        Begun::At(n) => {
-            let most = words[MOST_AT] as usize;
-            let room = words[ROOM_AT] as usize;
-            let slots = most + FILE_NUMBERS;
-            read_at(
-                &words[..WORD_COUNT],
-                &records[..most],
-                &heads[..slots],
-                &bytes[..room],
-                first,
-                n,
-                out,
-                number,
-                links,
-            )
-        }
-    }
+    )
+}
+
+// The contents of a file.
+fn read(
+    lent: Slices,
+    first: &mut [u8],
+    second: &[u8],
+    path: &[u8],
+    out: &mut [u8],
+    number: &mut u64,
+    links: &mut u64,
+) -> Result<(), Refusal>
+    ensures { Done (call_with (op.read_file path.now (length out.old)) (in_bytes out.old number.old links.old) first.old second.now)
+        (lent_by lent.entry) (lent_by lent.entry) (in_bytes out.new number.new links.new) (answered result) }
+{
+    let n = begin(lent, first, second, path, Sort::Any)?;
+    read_at(tree_of(used(lent)), first, n, out, number, links)
 }
 
 #[unsafe(no_mangle)]
@@ -334,65 +216,36 @@ pub extern "C" fn jobtree_read(
         (in_bytes out.new number.new links.new)
         first.new second.new result }
 {
-    let r = read(
-        words, records, heads, times, paths, bytes, first, second, path, out, number, links,
-    );
-    clear(first);
-    clear(second);
-    r
-}
-
-// The path of the entry that the path leads to.
-fn canonicalize(
-    words: &[u64],
-    records: &[u64],
-    heads: &[u64],
-    times: &[i64],
-    paths: &[u8],
-    bytes: &[u8],
-    first: &mut [u8],
-    second: &[u8],
-    path: &[u8],
-    out: &mut [u8],
-    number: &mut u64,
-    links: &mut u64,
-) -> u32
-    ensures { Done
-        (call_with (op.canonicalize path.now (length out.old))
-        (in_bytes out.old number.old links.old) first.old second.now)
-        (lends words.now records.now heads.now times.now paths.now bytes.now) (lends words.now records.now heads.now times.now paths.now bytes.now)
-        (in_bytes out.new number.new links.new) result }
-{
-    match begin(
+    let lent = Slices {
         words,
         records,
         heads,
         times,
         paths,
         bytes,
+    };
+    finish(
+        read(lent, first, second, path, out, number, links),
         first,
         second,
-        path,
-        Sort::Named,
-    ) {
-        Begun::Refused(r) => r,
-        Begun::At(n) => {
-            let most = words[MOST_AT] as usize;
-            let room = words[ROOM_AT] as usize;
-            let slots = most + FILE_NUMBERS;
-            canonicalize_at(
-                &words[..WORD_COUNT],
-                &records[..most],
-                &heads[..slots],
-                &bytes[..room],
-                first,
-                n,
-                out,
-                number,
-                links,
-            )
-        }
-    }
+    )
+}
+
+// The path of the entry that the path leads to.
+fn canonicalize(
+    lent: Slices,
+    first: &mut [u8],
+    second: &[u8],
+    path: &[u8],
+    out: &mut [u8],
+    number: &mut u64,
+    links: &mut u64,
+) -> Result<(), Refusal>
+    ensures { Done (call_with (op.canonicalize path.now (length out.old)) (in_bytes out.old number.old links.old) first.old second.now)
+        (lent_by lent.entry) (lent_by lent.entry) (in_bytes out.new number.new links.new) (answered result) }
+{
+    let n = begin(lent, first, second, path, Sort::Named)?;
+    canonicalize_at(tree_of(used(lent)), first, n, out, number, links)
 }
 
 #[unsafe(no_mangle)]
@@ -417,22 +270,24 @@ pub extern "C" fn jobtree_canonicalize(
         (in_bytes out.new number.new links.new)
         first.new second.new result }
 {
-    let r = canonicalize(
-        words, records, heads, times, paths, bytes, first, second, path, out, number, links,
-    );
-    clear(first);
-    clear(second);
-    r
+    let lent = Slices {
+        words,
+        records,
+        heads,
+        times,
+        paths,
+        bytes,
+    };
+    finish(
+        canonicalize(lent, first, second, path, out, number, links),
+        first,
+        second,
+    )
 }
 
 // The names and records of the entries of a directory.
 fn list(
-    words: &[u64],
-    records: &[u64],
-    heads: &[u64],
-    times: &[i64],
-    paths: &[u8],
-    bytes: &[u8],
+    lent: Slices,
     first: &mut [u8],
     second: &[u8],
     path: &[u8],
@@ -440,45 +295,22 @@ fn list(
     rows: &mut [i64],
     number: &mut u64,
     links: &mut u64,
-) -> u32
-    ensures { Done
-        (call_with (op.list path.now (length out.old) (length rows.old / 7))
-        (in_both out.old rows.old number.old links.old) first.old second.now)
-        (lends words.now records.now heads.now times.now paths.now bytes.now) (lends words.now records.now heads.now times.now paths.now bytes.now)
-        (in_both out.new rows.new number.new links.new) result }
+) -> Result<(), Refusal>
+    ensures { Done (call_with (op.list path.now (length out.old) (length rows.old / 7)) (in_both out.old rows.old number.old links.old) first.old second.now)
+        (lent_by lent.entry) (lent_by lent.entry) (in_both out.new rows.new number.new links.new) (answered result) }
 {
-    match begin(
-        words,
-        records,
-        heads,
-        times,
-        paths,
-        bytes,
+    let n = begin(lent, first, second, path, Sort::Any)?;
+    let used = used(lent);
+    list_at(
+        tree_of(used),
+        used.times,
         first,
-        second,
-        path,
-        Sort::Any,
-    ) {
-        Begun::Refused(r) => r,
-        Begun::At(n) => {
-            let most = words[MOST_AT] as usize;
-            let room = words[ROOM_AT] as usize;
-            let slots = most + FILE_NUMBERS;
-            list_at(
-                &words[..WORD_COUNT],
-                &records[..most],
-                &heads[..slots],
-                &times[..4 * slots],
-                &bytes[..room],
-                first,
-                n,
-                out,
-                rows,
-                number,
-                links,
-            )
-        }
-    }
+        n,
+        out,
+        rows,
+        number,
+        links,
+    )
 }
 
 #[unsafe(no_mangle)]
@@ -504,10 +336,17 @@ pub extern "C" fn jobtree_list(
         (in_both out.new rows.new number.new links.new)
         first.new second.new result }
 {
-    let r = list(
-        words, records, heads, times, paths, bytes, first, second, path, out, rows, number, links,
-    );
-    clear(first);
-    clear(second);
-    r
+    let lent = Slices {
+        words,
+        records,
+        heads,
+        times,
+        paths,
+        bytes,
+    };
+    finish(
+        list(lent, first, second, path, out, rows, number, links),
+        first,
+        second,
+    )
 }

@@ -1,18 +1,22 @@
 // The calls by file number. But for metadata they walk no path, and are lent no working buffers.
 ghost use Rattle.std.specs.Prelude.{[], ◌/◌, length};
 ghost use Rattle.model.specs.Calls.Calling as op;
-ghost use Rattle.layout.specs.Lent.{lends};
+ghost use Rattle.refusal.specs.Numbers.{answered};
+ghost use Rattle.layout.specs.Lent.{lends, lent_by};
 ghost use Rattle.layout.specs.Answers.{Answers};
 ghost use Rattle.op.specs.Lending.{call_with, in_bytes, in_rows, in_number, in_nothing};
 ghost use Rattle.op.specs.Doing.{Done};
 
 use lawful::sizes::known;
-use layout::{FILE_NUMBERS, MOST_AT, PATHS_BYTES, ROOM_AT, WORD_COUNT};
-use op::clear::clear;
-use op::ready::{Number, Work, ready};
+use layout::WORD_COUNT;
+use layout::slices::Slices;
+use op::clear::finish;
+use op::parts::{Sizes, used};
+use op::ready::{Number, ready};
 use op_number::attributes::{close_on, set_length_on, set_mode_on, set_times_on};
 use op_number::metadata::metadata_on;
-use op_number::position::{read_on, seek_on};
+use op_number::position::{Origin, read_on, seek_on};
+use refusal::{Refusal, answer};
 
 // The number is open no more.
 #[unsafe(no_mangle)]
@@ -31,31 +35,27 @@ pub extern "C" fn jobtree_close(
         (lends words.old records.now heads.old times.now paths.now bytes.old) (lends words.new records.now heads.new times.now paths.now bytes.new)
         (in_nothing) [] [] result }
 {
-    let r = ready(
+    let lent = Slices {
         words,
         records,
         heads,
         times,
         paths,
         bytes,
-        Work::NotLent,
-        &paths[..0],
-        &paths[..0],
-        Number::Opened(n),
-    );
-    if r != 0 {
-        return r;
+    };
+    match ready(lent, None, &[], Number::Opened(n)) {
+        Err(e) => e.number(),
+        Ok(()) => {
+            let used = Sizes::of(lent);
+            answer(close_on(
+                &mut words[..WORD_COUNT],
+                &records[..used.records],
+                &mut heads[..used.heads],
+                &mut bytes[..used.bytes],
+                n as usize,
+            ))
+        }
     }
-    let most = words[MOST_AT] as usize;
-    let room = words[ROOM_AT] as usize;
-    let slots = most + FILE_NUMBERS;
-    close_on(
-        &mut words[..WORD_COUNT],
-        &records[..most],
-        &mut heads[..slots],
-        &mut bytes[..room],
-        n as usize,
-    )
 }
 
 // From the position on, as much as there is or fits.
@@ -77,32 +77,28 @@ pub extern "C" fn jobtree_read_number(
         (lends words.old records.now heads.now times.now paths.now bytes.now) (lends words.new records.now heads.now times.now paths.now bytes.now)
         (in_bytes out.new number.new 0) [] [] result }
 {
-    let r = ready(
+    let lent = Slices {
         words,
         records,
         heads,
         times,
         paths,
         bytes,
-        Work::NotLent,
-        &paths[..0],
-        &paths[..0],
-        Number::Opened(n),
-    );
-    if r != 0 {
-        return r;
+    };
+    match ready(lent, None, &[], Number::Opened(n)) {
+        Err(e) => e.number(),
+        Ok(()) => {
+            let used = Sizes::of(lent);
+            answer(read_on(
+                &mut words[..WORD_COUNT],
+                &heads[..used.heads],
+                &bytes[..used.bytes],
+                n as usize,
+                out,
+                number,
+            ))
+        }
     }
-    let most = words[MOST_AT] as usize;
-    let room = words[ROOM_AT] as usize;
-    let slots = most + FILE_NUMBERS;
-    read_on(
-        &mut words[..WORD_COUNT],
-        &heads[..slots],
-        &bytes[..room],
-        n as usize,
-        out,
-        number,
-    )
 }
 
 // The position, from the start (origin 0), the position (1) or the end.
@@ -125,33 +121,29 @@ pub extern "C" fn jobtree_seek(
         (lends words.old records.now heads.now times.now paths.now bytes.now) (lends words.new records.now heads.now times.now paths.now bytes.now)
         (in_number number.new) [] [] result }
 {
-    let r = ready(
+    let lent = Slices {
         words,
         records,
         heads,
         times,
         paths,
         bytes,
-        Work::NotLent,
-        &paths[..0],
-        &paths[..0],
-        Number::Opened(n),
-    );
-    if r != 0 {
-        return r;
+    };
+    match ready(lent, None, &[], Number::Opened(n)) {
+        Err(e) => e.number(),
+        Ok(()) => {
+            let used = Sizes::of(lent);
+            answer(seek_on(
+                &mut words[..WORD_COUNT],
+                &heads[..used.heads],
+                &bytes[..used.bytes],
+                n as usize,
+                Origin::from(origin),
+                offset,
+                number,
+            ))
+        }
     }
-    let most = words[MOST_AT] as usize;
-    let room = words[ROOM_AT] as usize;
-    let slots = most + FILE_NUMBERS;
-    seek_on(
-        &mut words[..WORD_COUNT],
-        &heads[..slots],
-        &bytes[..room],
-        n as usize,
-        origin,
-        offset,
-        number,
-    )
 }
 
 // The length of its file.
@@ -172,32 +164,28 @@ pub extern "C" fn jobtree_set_length(
         (lends words.now records.now heads.old times.now paths.now bytes.old) (lends words.now records.now heads.new times.now paths.now bytes.new)
         (in_nothing) [] [] result }
 {
-    let r = ready(
+    let lent = Slices {
         words,
         records,
         heads,
         times,
         paths,
         bytes,
-        Work::NotLent,
-        &paths[..0],
-        &paths[..0],
-        Number::Opened(n),
-    );
-    if r != 0 {
-        return r;
+    };
+    match ready(lent, None, &[], Number::Opened(n)) {
+        Err(e) => e.number(),
+        Ok(()) => {
+            let used = Sizes::of(lent);
+            answer(set_length_on(
+                &words[..WORD_COUNT],
+                &records[..used.records],
+                &mut heads[..used.heads],
+                &mut bytes[..used.bytes],
+                n as usize,
+                size,
+            ))
+        }
     }
-    let most = words[MOST_AT] as usize;
-    let room = words[ROOM_AT] as usize;
-    let slots = most + FILE_NUMBERS;
-    set_length_on(
-        &words[..WORD_COUNT],
-        &records[..most],
-        &mut heads[..slots],
-        &mut bytes[..room],
-        n as usize,
-        size,
-    )
 }
 
 // The mode of its file.
@@ -218,24 +206,26 @@ pub extern "C" fn jobtree_set_mode_number(
         (lends words.now records.now heads.old times.now paths.now bytes.now) (lends words.now records.now heads.new times.now paths.now bytes.now)
         (in_nothing) [] [] result }
 {
-    let r = ready(
+    let lent = Slices {
         words,
         records,
         heads,
         times,
         paths,
         bytes,
-        Work::NotLent,
-        &paths[..0],
-        &paths[..0],
-        Number::Opened(n),
-    );
-    if r != 0 {
-        return r;
+    };
+    match ready(lent, None, &[], Number::Opened(n)) {
+        Err(e) => e.number(),
+        Ok(()) => {
+            let used = Sizes::of(lent);
+            answer(set_mode_on(
+                &words[..WORD_COUNT],
+                &mut heads[..used.heads],
+                n as usize,
+                mode,
+            ))
+        }
     }
-    let most = words[MOST_AT] as usize;
-    let slots = most + FILE_NUMBERS;
-    set_mode_on(&words[..WORD_COUNT], &mut heads[..slots], n as usize, mode)
 }
 
 // The times of its file: accessed (flag 1) and modified (2).
@@ -258,86 +248,48 @@ pub extern "C" fn jobtree_set_times_number(
         (lends words.now records.now heads.now times.old paths.now bytes.now) (lends words.now records.now heads.now times.new paths.now bytes.now)
         (in_nothing) [] [] result }
 {
-    let r = ready(
+    let lent = Slices {
         words,
         records,
         heads,
         times,
         paths,
         bytes,
-        Work::NotLent,
-        &paths[..0],
-        &paths[..0],
-        Number::Opened(n),
-    );
-    if r != 0 {
-        return r;
+    };
+    match ready(lent, None, &[], Number::Opened(n)) {
+        Err(e) => e.number(),
+        Ok(()) => {
+            let used = Sizes::of(lent);
+            let accessed = (flags % 2 == 1).then_some(accessed);
+            let modified = (flags / 2 % 2 == 1).then_some(modified);
+            let r = set_times_on(
+                &words[..WORD_COUNT],
+                &mut times[..used.times],
+                n as usize,
+                accessed,
+                modified,
+            );
+            known(times);
+            answer(r)
+        }
     }
-    let most = words[MOST_AT] as usize;
-    let slots = most + FILE_NUMBERS;
-    let q = set_times_on(
-        &words[..WORD_COUNT],
-        &mut times[..4 * slots],
-        n as usize,
-        flags,
-        accessed,
-        modified,
-    );
-    known(times);
-    q
 }
 
 // The record of the entry that the path kept at open leads to now.
 fn metadata_number(
-    words: &[u64],
-    records: &[u64],
-    heads: &[u64],
-    times: &[i64],
-    paths: &[u8],
-    bytes: &[u8],
+    lent: Slices,
     first: &mut [u8],
     second: &[u8],
     n: u32,
     rows: &mut [i64],
     links: &mut u64,
-) -> u32
-    ensures { Done
-        (call_with (op.metadata_number n (length rows.old / 7))
-        (in_rows rows.old links.old) first.old second.now)
-        (lends words.now records.now heads.now times.now paths.now bytes.now) (lends words.now records.now heads.now times.now paths.now bytes.now)
-        (in_rows rows.new links.new) result }
+) -> Result<(), Refusal>
+    ensures { Done (call_with (op.metadata_number n (length rows.old / 7)) (in_rows rows.old links.old) first.old second.now)
+        (lent_by lent.entry) (lent_by lent.entry) (in_rows rows.new links.new) (answered result) }
 {
-    let work = Work::Lent(first.len(), second.len());
-    let r = ready(
-        words,
-        records,
-        heads,
-        times,
-        paths,
-        bytes,
-        work,
-        &paths[..0],
-        &paths[..0],
-        Number::Opened(n),
-    );
-    if r != 0 {
-        return r;
-    }
-    let most = words[MOST_AT] as usize;
-    let room = words[ROOM_AT] as usize;
-    let slots = most + FILE_NUMBERS;
-    metadata_on(
-        &words[..WORD_COUNT],
-        &records[..most],
-        &heads[..slots],
-        &times[..4 * slots],
-        &paths[..PATHS_BYTES],
-        &bytes[..room],
-        n as usize,
-        first,
-        rows,
-        links,
-    )
+    let work = (first.len(), second.len());
+    ready(lent, Some(work), &[], Number::Opened(n))?;
+    metadata_on(used(lent), n as usize, first, rows, links)
 }
 
 #[unsafe(no_mangle)]
@@ -361,10 +313,17 @@ pub extern "C" fn jobtree_metadata_number(
         (in_rows rows.new links.new)
         first.new second.new result }
 {
-    let r = metadata_number(
-        words, records, heads, times, paths, bytes, first, second, n, rows, links,
-    );
-    clear(first);
-    clear(second);
-    r
+    let lent = Slices {
+        words,
+        records,
+        heads,
+        times,
+        paths,
+        bytes,
+    };
+    finish(
+        metadata_number(lent, first, second, n, rows, links),
+        first,
+        second,
+    )
 }

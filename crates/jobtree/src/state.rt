@@ -1,16 +1,20 @@
 // The calls that set the umask and the current directory.
 ghost use Rattle.std.specs.Prelude.{[]};
 ghost use Rattle.model.specs.Calls.Calling as op;
+ghost use Rattle.refusal.specs.Numbers.{answered};
 ghost use Rattle.layout.specs.Lent.{lends};
 ghost use Rattle.layout.specs.Answers.{Answers};
 ghost use Rattle.op.specs.Lending.{call_with, in_links, in_number};
 ghost use Rattle.op.specs.Doing.{Done};
 
-use layout::{FILE_NUMBERS, MOST_AT, PATHS_BYTES, ROOM_AT, WORD_COUNT};
-use op::begin::{Begun, Sort, begin};
-use op::clear::clear;
-use op::ready::{Number, Work, ready};
+use layout::slices::Slices;
+use layout::{PATHS_BYTES, WORD_COUNT};
+use op::begin::{Sort, begin};
+use op::clear::finish;
+use op::parts::Sizes;
+use op::ready::{Number, ready};
 use op_state::{set_current_at, set_umask_to};
+use refusal::{Refusal, answer};
 
 // Answers the old umask.
 #[unsafe(no_mangle)]
@@ -30,22 +34,18 @@ pub extern "C" fn jobtree_set_umask(
         (lends words.old records.now heads.now times.now paths.now bytes.now) (lends words.new records.now heads.now times.now paths.now bytes.now)
         (in_number number.new) [] [] result }
 {
-    let r = ready(
+    let lent = Slices {
         words,
         records,
         heads,
         times,
         paths,
         bytes,
-        Work::NotLent,
-        &paths[..0],
-        &paths[..0],
-        Number::NotGiven,
-    );
-    if r != 0 {
-        return r;
+    };
+    match ready(lent, None, &[], Number::NotGiven) {
+        Err(e) => e.number(),
+        Ok(()) => answer(set_umask_to(&mut words[..WORD_COUNT], mask, number)),
     }
-    set_umask_to(&mut words[..WORD_COUNT], mask, number)
 }
 
 // What the path leads to is the current directory.
@@ -60,42 +60,33 @@ fn set_current_dir(
     second: &[u8],
     path: &[u8],
     links: &mut u64,
-) -> u32
+) -> Result<(), Refusal>
     ensures { Done
         (call_with (op.set_current_dir path.now)
         (in_links links.old) first.old second.now)
         (lends words.old records.now heads.now times.now paths.old bytes.now) (lends words.new records.now heads.now times.now paths.new bytes.now)
-        (in_links links.new) result }
+        (in_links links.new) (answered result) }
 {
-    match begin(
+    let lent = Slices {
         words,
         records,
         heads,
         times,
         paths,
         bytes,
+    };
+    let n = begin(lent, first, second, path, Sort::Named)?;
+    let used = Sizes::of(lent);
+    set_current_at(
+        &mut words[..WORD_COUNT],
+        &records[..used.records],
+        &heads[..used.heads],
+        &mut paths[..PATHS_BYTES],
+        &bytes[..used.bytes],
         first,
-        second,
-        path,
-        Sort::Named,
-    ) {
-        Begun::Refused(r) => r,
-        Begun::At(n) => {
-            let most = words[MOST_AT] as usize;
-            let room = words[ROOM_AT] as usize;
-            let slots = most + FILE_NUMBERS;
-            set_current_at(
-                &mut words[..WORD_COUNT],
-                &records[..most],
-                &heads[..slots],
-                &mut paths[..PATHS_BYTES],
-                &bytes[..room],
-                first,
-                n,
-                links,
-            )
-        }
-    }
+        n,
+        links,
+    )
 }
 
 #[unsafe(no_mangle)]
@@ -121,7 +112,5 @@ pub extern "C" fn jobtree_set_current_dir(
     let r = set_current_dir(
         words, records, heads, times, paths, bytes, first, second, path, links,
     );
-    clear(first);
-    clear(second);
-    r
+    finish(r, first, second)
 }

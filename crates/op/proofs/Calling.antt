@@ -4,7 +4,7 @@ use mathlib.Core.List.{[], ◌∷◌}
 use mathlib.Core.Path.{◌≡◌, refl, sym, ap, ◌∙◌, subst}
 use Prim.Native.Nat.{ℕ}
 use native.Mathlib.Omega.{arith}
-use lib.ListN.{take}
+use lib.ListN.{length, take, replicate}
 use Rattle.text.specs.Utf8.{Bytes}
 use Rattle.path.specs.Path.{names}
 use Rattle.model.specs.Tree.{Path, links_in}
@@ -31,7 +31,7 @@ use Rattle.op.specs.declared.begin.Sort.TheVariants as sort
 use Rattle.op.specs.Doing.{Does, Done}
 use Rattle.walk.specs.Meets.{PathIn}
 use Rattle.op.specs.Beginning.{taken, Stops, screened, Begins, broken, tested, formed}
-use Rattle.op.specs.Parts.{cut}
+use Rattle.op.specs.Parts.{cut, sizes_of}
 use Rattle.op.proofs.Cutting.{shows-cut, Returned, not_written}
 use Rattle.op.proofs.Doing.{does-refused, done-broken, done-screened, done-does}
 
@@ -135,7 +135,7 @@ module _ (l : Lent) (st : Store) {o : Sort} {path : Bytes} {f : ℕ → Path →
 
   -- what the operation comes to at the path
   pub done_at : {out : Bytes} {n : ℕ} → Begins st l.first l.second o path out (Ok n) → (u after : Store) (to : Outputs) (r : ℕ) → Does (f bound (names (take n out))) s u l.outputs to r
-      → Returned st u after → Sized (core after) → Done l st after to r
+      → Returned (sizes_of st) st u after → Sized (core after) → Done l st after to r
   unfolding Stops
   done_at b u after to r d k z =
       let p = began b in
@@ -144,9 +144,14 @@ module _ (l : Lent) (st : Store) {o : Sort} {path : Bytes} {f : ℕ → Path →
   -- without an edit
   pub done-asked : {out : Bytes} {n : ℕ} → Begins st l.first l.second o path out (Ok n) → (u : Store) → u ≡ cut st → (to : Outputs) (r : ℕ) → Does (f bound (names (take n out))) s u l.outputs to r
       → Done l st st to r
-  done-asked b u e to r d = done_at b u st to r d (subst (λ (x : Store). Returned st x st) (sym e) (not_written st)) (begins-passes b).2
+  done-asked b u e to r d = done_at b u st to r d (subst (λ (x : Store). Returned (sizes_of st) st x st) (sym e) (not_written st)) (begins-passes b).2
 
 -- and both working buffers are cleared
 pub answers : {l : Lent} {st after : Store} {to : Outputs} {r q : ℕ} → Done l st after to r → {first second : Bytes} → first ≡ cleared l.first → second ≡ cleared l.second → q ≡ r
     → Answers l st after to first second q
 answers {l = l} {st = st} {after = after} {to = to} d a b e = subst (Answers l st after to _ _) (sym e) (record { passing = d.passing; broken = d.broken; first_cleared = a; second_cleared = b })
+
+-- the first of them as the call has left it
+pub answers_finished : {l : Lent} {st after : Store} {to : Outputs} {r q : ℕ} → Done l st after to r → (left : Bytes) {first second : Bytes} → length left ≡ length l.first → first ≡ cleared left
+    → second ≡ cleared l.second → q ≡ r → Answers l st after to first second q
+answers_finished d left n a b e = answers d (a ∙ ap (λ (k : ℕ). replicate k 0) n) b e

@@ -25,7 +25,8 @@ use Rattle.store.specs.Shows.{Shows}
 use Rattle.layout.specs.declared.slices.Slices.{Slices}
 use Rattle.layout.specs.declared.slices.Tree.{Tree}
 use Rattle.layout.specs.Lent.{◌∘◌, lent_by, with_tree, with_times}
-use Rattle.op.specs.Parts.{cut, tree_of}
+use Rattle.op.specs.declared.parts.Sizes.{Sizes}
+use Rattle.op.specs.Parts.{cut, tree_of, sizes_of, SizesOf}
 
 -- a word of the state stands in the part
 word_in : (ws : List ℕ) (i : ℕ) → i + 1 ≤ 102 → get_or (take word_count ws) i 0 ≡ get_or ws i 0
@@ -89,27 +90,40 @@ pub as_was : {A : Type 0} (n : ℕ) (xs : List A) → Back n xs (take n xs) xs
 as_was n xs = record { front = refl; rest = refl; long = refl }
 
 -- a part that was lent and has come back
-pub put_back : {A : Type 0} (n : ℕ) (xs ys : List A) → n ≤ length xs → length ys ≡ n → Back n xs ys (ys ++ drop n xs)
-put_back n xs ys h e = record {
-  front = ap (λ (k : ℕ). take k (ys ++ drop n xs)) (sym e) ∙ take-append_seam ys (drop n xs);
-  rest = ap (λ (k : ℕ). drop k (ys ++ drop n xs)) (sym e) ∙ drop-append_seam ys (drop n xs);
-  long = length-append ys (drop n xs) ∙ omega (arith, length-drop n xs, e, h);
-}
+pub put_back : {A : Type 0} {n : ℕ} {xs ys : List A} → n ≤ length xs → length ys ≡ length (take n xs) → Back n xs ys (ys ++ drop n xs)
+put_back {n = n} {xs = xs} {ys = ys} h k =
+    let e : length ys ≡ n = k ∙ length-take-le n xs h in
+    record {
+      front = ap (λ (k : ℕ). take k (ys ++ drop n xs)) (sym e) ∙ take-append_seam ys (drop n xs);
+      rest = ap (λ (k : ℕ). drop k (ys ++ drop n xs)) (sym e) ∙ drop-append_seam ys (drop n xs);
+      long = length-append ys (drop n xs) ∙ omega (arith, length-drop n xs, e, h);
+    }
 
--- all six
-pub record Returned (st u after : Store) : Type 0 where
+-- all six, of these lengths
+pub record Returned (n : Sizes) (st u after : Store) : Type 0 where
   pub words : Back word_count st.words u.words after.words
-  pub records : Back (most st) st.records u.records after.records
-  pub heads : Back (slots_for (most st)) st.heads u.heads after.heads
-  pub times : Back (4 * slots_for (most st)) st.times u.times after.times
+  pub records : Back n.records st.records u.records after.records
+  pub heads : Back n.heads st.heads u.heads after.heads
+  pub times : Back n.times st.times u.times after.times
   pub paths : Back paths_bytes st.paths u.paths after.paths
-  pub bytes : Back (room st) st.bytes u.bytes after.bytes
+  pub bytes : Back n.bytes st.bytes u.bytes after.bytes
+
+-- parts of these lengths
+abbrev pub cut_by : Sizes → Store → Store
+cut_by n st = lent (take word_count st.words) (take n.records st.records) (take n.heads st.heads) (take n.times st.times) (take paths_bytes st.paths) (take n.bytes st.bytes)
+
+module _ {st : Store} {n : Sizes} (z : SizesOf st n) where
+  pub cut_alike : cut_by n st ≡ cut st
+  cut_alike = ap (λ (k : Sizes). cut_by k st) z.are
+
+  pub returned_alike : {u after : Store} → Returned n st u after → Returned (sizes_of st) st u after
+  returned_alike {u = u} {after = after} b = subst (λ (k : Sizes). Returned k st u after) z.are b
 
 -- none of them was written
-pub not_written : (st : Store) → Returned st (cut st) st
+pub not_written : (st : Store) → Returned (sizes_of st) st (cut st) st
 not_written st = record { words = as_was _ _; records = as_was _ _; heads = as_was _ _; times = as_was _ _; paths = as_was _ _; bytes = as_was _ _ }
 
-module _ (st u after : Store) (p : Passes st) (b : Returned st u after) (l : Lawful (trim u)) where
+module _ (st u after : Store) (p : Passes st) (b : Returned (sizes_of st) st u after) (l : Lawful (trim u)) where
   word-now : (i : ℕ) → i + 1 ≤ 102 → get_or after.words i 0 ≡ get_or u.words i 0
   word-now i h = sym (word_in after.words i h) ∙ ap (λ (ws : List ℕ). get_or ws i 0) b.words.front
 

@@ -33,7 +33,7 @@ use Rattle.layout.proofs.Used.{entries-used, bytes-used}
 use Rattle.edit_room.specs.Extents.{trim}
 use Rattle.store.specs.Shows.{Shows}
 use Rattle.op.specs.Doing.{settled, Does, Done}
-use Rattle.op.specs.Parts.{cut}
+use Rattle.op.specs.Parts.{cut, sizes_of}
 use Rattle.op.proofs.Cutting.{shows-cut, Returned, not_written, core-now, long-now, behind-now}
 
 -- ---- within the limits
@@ -113,7 +113,7 @@ module _ (l : Lent) (st : Store) (p : Passes st) where
 
   -- what is shown is left whole
   carried : (u after : Store) (out : Outputs) (r : ℕ) (x : Outcome) → perform (call_of l) at ≡ x → r ≡ result_number x.result → out ≡ outputs_after x.result l.outputs
-      → Shows u x.after → Returned st u after → Sized (core after) → Done l st after out r
+      → Shows u x.after → Returned (sizes_of st) st u after → Sized (core after) → Done l st after out r
   carried u after out r x e n a h b z = record {
     passing = λ _. record {
       number = n ∙ ap (λ (y : Outcome). result_number y.result) (sym e);
@@ -133,8 +133,12 @@ module _ (l : Lent) (st : Store) (p : Passes st) where
       carried (cut st) st l.outputs (suc n) (outcome (refusal (suc n)) at) (ap (λ (k : ℕ). decide_by k at (settled whole at)) (sym e)) refl refl (shows-cut st p) (not_written st) p.2
 
   -- or what its program comes to
-  pub done-does : 0 ≡ screen (call_of l).work (given_to l.op) at.opens → (u after : Store) (out : Outputs) (r : ℕ) → Does whole at u l.outputs out r → Returned st u after → Sized (core after)
+  pub done-does : 0 ≡ screen (call_of l).work (given_to l.op) at.opens → (u after : Store) (out : Outputs) (r : ℕ) → Does whole at u l.outputs out r → Returned (sizes_of st) st u after → Sized (core after)
       → Done l st after out r
   unfolding perform perform_with
   done-does e u after out r d b z =
       carried u after out r (settled whole at) (ap (λ (k : ℕ). decide_by k at (settled whole at)) (sym e)) d.number d.answer d.shows b z
+
+-- a refusal that is passed on
+pub done-err : {l : Lent} {st after : Store} {out : Outputs} {r : Result Unit Refusal} {e : Refusal} → r ≡ Err e → Done l st after out (number_of e) → Done l st after out (answered r)
+done-err {l = l} {st = st} {after = after} {out = out} x d = subst (λ (k : Result Unit Refusal). Done l st after out (answered k)) (sym x) d

@@ -4,7 +4,8 @@ use mathlib.Core.Bool.{Bool, true, false, ◌&&◌}
 use mathlib.Core.List.{[]}
 use mathlib.Core.Option.{Option, none, some}
 use mathlib.Core.Path.{◌≡◌, refl, sym, ap, ◌∙◌}
-use Prim.Native.Nat.{ℕ, ◌≤◌}
+use Prim.Native.Nat.{ℕ, ◌≤◌, ◌<◌, ◌^◌}
+use lib.ListN.{get_or}
 use native.Mathlib.Omega.{arith}
 use lib.Dec.{leb}
 use borrow.Author.Tests.{leb-true}
@@ -31,7 +32,8 @@ use Rattle.op.specs.declared.ready.Number.TheVariants as number
 use Rattle.op.specs.Doing.{Does, Done}
 use Rattle.op.specs.Lending.{call_with}
 use Rattle.op.specs.Testing.{Work, work_of, walks, given_by, screen_of, Tested, broken, passing}
-use Rattle.op.proofs.Cutting.{Returned}
+use Rattle.op.specs.Parts.{sizes_of}
+use Rattle.op.proofs.Cutting.{Returned, sized-kept}
 use Rattle.op.proofs.Doing.{done-broken, done-screened, done-does}
 use Rattle.op.proofs.Calling.{same_run, not-zero, answers}
 
@@ -136,15 +138,21 @@ module _ (l : Lent) (st : Store) {w : Work} {m : Number} {p : ℕ → Prog Reply
   number-refused {e = e} (passing y z) = done-screened l st y (number_of e) (not-zero e) (z ∙ tests)
 
   -- what the operation comes to
-  pub number-done : Tested st w [] m (Ok tt) → (u after : Store) (out : Outputs) (q : ℕ) → Does (p (links_in s.tree)) s u l.outputs out q → Returned st u after → Sized (core after) → Done l st after out q
+  pub number-done : Tested st w [] m (Ok tt) → (u after : Store) (out : Outputs) (q : ℕ) → Does (p (links_in s.tree)) s u l.outputs out q → Returned (sizes_of st) st u after → Sized (core after) → Done l st after out q
   number-done t u after out q d b y =
       done-does l st (tested-passes t) ((tested t).1 ∙ tests) u after out q (same_run (ap (λ (v : Prog Reply). run v (world_of s)) (k.does (links_in s.tree))) d) b y
 
 -- the same of a call that is lent no working buffers
 module _ {c : Op} {o : Outputs} (st : Store) {m : Number} {p : ℕ → Prog Reply} (k : Numbers c None m p) where
-  pub answers-refused : {e : Refusal} → Tested st None [] m (Err e) → Answers (call_with c o [] []) st st o [] [] (number_of e)
-  answers-refused t = answers (number-refused (call_with c o [] []) st k refl t) refl refl refl
+  pub answers-refused : {e : Refusal} {r : ℕ} → Tested st None [] m (Err e) → r ≡ number_of e → Answers (call_with c o [] []) st st o [] [] r
+  answers-refused t x = answers (number-refused (call_with c o [] []) st k refl t) refl refl x
 
-  pub answers-done : Tested st None [] m (Ok tt) → {u after : Store} {to : Outputs} {q r : ℕ} → Does (p (links_in (read_back st).tree)) (read_back st) u o to q → Returned st u after → Sized (core after) → r ≡ q
+  pub answers-done : Tested st None [] m (Ok tt) → {u after : Store} {to : Outputs} {q r : ℕ} → Does (p (links_in (read_back st).tree)) (read_back st) u o to q → Returned (sizes_of st) st u after
+      → Sized (core after) → r ≡ q → Answers (call_with c o [] []) st after to [] [] r
+  answers-done t d b y x = answers (number-done (call_with c o [] []) st k refl t _ _ _ _ d b y) refl refl x
+
+  -- that leaves the times
+  pub answers-changed : Tested st None [] m (Ok tt) → {u after : Store} {to : Outputs} {q r : ℕ} → Does (p (links_in (read_back st).tree)) (read_back st) u o to q → Returned (sizes_of st) st u after
+      → after.times ≡ st.times → ((i : ℕ) → get_or after.words i 0 < 2 ^ 64) → ((i : ℕ) → get_or after.heads i 0 < 2 ^ 64) → ((i : ℕ) → get_or after.bytes i 0 < 256) → r ≡ q
       → Answers (call_with c o [] []) st after to [] [] r
-  answers-done t d b y e = answers (number-done (call_with c o [] []) st k refl t _ _ _ _ d b y) refl refl e
+  answers-changed t d b f ws hs bs x = answers-done t d b (sized-kept st _ _ (tested-passes t) b d.shows.roomy.lawful f ws hs bs) x

@@ -12,14 +12,19 @@ abbrev pub cut : Store → Store
 cut st =
     record { words = take word_count st.words; records = take (most st) st.records; heads = take (slots_for (most st)) st.heads; times = take (4 * slots_for (most st)) st.times; paths = take paths_bytes st.paths; bytes = take (room st) st.bytes }
 
--- the lengths of the parts, and that the slices are so long
+-- the lengths of these parts, but for the words of the state and the cells of the kept paths
+abbrev pub sizes_of : Store → Sizes
+sizes_of st = record { records = most st; heads = slots_for (most st); times = 4 * slots_for (most st); bytes = room st }
+
+-- that is what they are, and the slices are so long
 pub record SizesOf (st : Store) (n : Sizes) : Type 0 where
+  pub are : n ≡ sizes_of st
   pub words : word_count ≤ length st.words
-  pub records : (n.records ≡ most st) × (n.records ≤ length st.records)
-  pub heads : (n.heads ≡ slots_for (most st)) × (n.heads ≤ length st.heads)
-  pub times : (n.times ≡ 4 * slots_for (most st)) × (n.times ≤ length st.times)
+  pub records : n.records ≤ length st.records
+  pub heads : n.heads ≤ length st.heads
+  pub times : n.times ≤ length st.times
   pub paths : paths_bytes ≤ length st.paths
-  pub bytes : (n.bytes ≡ room st) × (n.bytes ≤ length st.bytes)
+  pub bytes : n.bytes ≤ length st.bytes
 
 -- those of the slices that hold the tree
 abbrev pub tree_of : Slices → Tree

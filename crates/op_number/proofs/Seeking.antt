@@ -1,11 +1,13 @@
 -- Where a seek leads, by its origin. From the end, the exact sum of length and offset is that of the length and how far the offset is
 -- above or below 0.
 -- Assumes nothing.
-use Rattle.std.proofs.Common.{◌≡◌, ℕ, ◌+◌, ◌-◌, ◌%◌, ◌^◌, ◌<◌, ◌≤◌, Bool, true, false, ◌&&◌, ltb, leb, sym, ap, ◌∙◌, arith, le-ltb, lt-ltb, le-leb}
+use Rattle.std.proofs.Common.{◌≡◌, ℕ, zero, suc, ◌+◌, ◌-◌, ◌%◌, ◌^◌, ◌<◌, ◌≤◌, Bool, true, false, ◌&&◌, ltb, leb, sym, ap, ◌∙◌, arith, le-ltb, lt-ltb, le-leb}
 use borrow.Author.Tests.{lt-leb}
 use Rattle.model.specs.Refusals.{bad_seek}
-use Rattle.model.specs.Prog.{World, Out, ret, done, refused, run}
-use Rattle.model.specs.Operations.Numbers.{sum_above, from_end, seek_from}
+use Rattle.model.specs.Prog.{World, Out, ret, ◌>>=◌, ◌>>◌, done, refused, run}
+use Rattle.model.specs.Operations.Numbers.{sum_above, from_end, seek_from, seek_on}
+use Rattle.op_number.specs.declared.position.Origin.{Origin}
+use Rattle.op_number.specs.Opened.{origin_from, number_from}
 use Rattle.model.proofs.Running.{allowed, need-run}
 
 -- ---- from the end
@@ -59,3 +61,10 @@ module _ (origin offset pos size : ℕ) (w : World) where
 pub seek-end : (origin offset pos size : ℕ) (w : World) → origin ≡ 2 → (r : Out ℕ) → run (seek_from 2 offset 0 size) w ≡ r → run (seek_from origin offset pos size) w ≡ r
 unfolding seek_from
 seek-end origin offset pos size w e r x = ap (λ (k : ℕ). run (seek_from k offset pos size) w) e ∙ x
+
+-- by an origin that its number stands for
+pub origin_run : (n number offset : ℕ) (w : World) {o : Origin} → o ≡ origin_from number → run (seek_on n number offset) w ≡ run (seek_on n (number_from o) offset) w
+unfolding seek_on seek_from run ◌>>=◌ ◌>>◌
+origin_run n zero offset w e = ap (λ (k : Origin). run (seek_on n (number_from k) offset) w) (sym e)
+origin_run n (suc zero) offset w e = ap (λ (k : Origin). run (seek_on n (number_from k) offset) w) (sym e)
+origin_run n (suc (suc number)) offset w e = ap (λ (k : Origin). run (seek_on n (number_from k) offset) w) (sym e)

@@ -1,10 +1,7 @@
 -- `jobtree_read_link` meets its contract: the call, and both working buffers cleared.
 -- Assumes nothing.
-use mathlib.Core.Path.{ap, ◌∙◌}
-use Prim.Native.Nat.{ℕ}
-use lib.ListN.{replicate}
-use Rattle.op.proofs.Calling.{answers}
+use Rattle.op.proofs.Calling.{answers_finished}
 use Rattle.jobtree.proofs.look.jobtree_read_link.Goals as goal
 
 pub returns : goal.returns
-returns c = answers c.read_link-r.ensures _ _ (c.clear.ensures ∙ ap (λ (n : ℕ). replicate n 0) c.read_link-r.auto.first) c.clear-2.ensures
+returns c = answers_finished c.read_link.ensures _ c.read_link.auto.first c.finish.ensures.first c.finish.ensures.second c.finish.ensures.number

@@ -1,10 +1,7 @@
 -- `jobtree_symlink_metadata` meets its contract: the call, and both working buffers cleared.
 -- Assumes nothing.
-use mathlib.Core.Path.{ap, ◌∙◌}
-use Prim.Native.Nat.{ℕ}
-use lib.ListN.{replicate}
-use Rattle.op.proofs.Calling.{answers}
+use Rattle.op.proofs.Calling.{answers_finished}
 use Rattle.jobtree.proofs.look.jobtree_symlink_metadata.Goals as goal
 
 pub returns : goal.returns
-returns c = answers c.symlink_metadata-r.ensures _ _ (c.clear.ensures ∙ ap (λ (n : ℕ). replicate n 0) c.symlink_metadata-r.auto.first) c.clear-2.ensures
+returns c = answers_finished c.symlink_metadata.ensures _ c.symlink_metadata.auto.first c.finish.ensures.first c.finish.ensures.second c.finish.ensures.number
