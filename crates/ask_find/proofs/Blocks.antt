@@ -9,7 +9,7 @@ use native.Mathlib.Numerals.{add-one}
 use native.Mathlib.Omega.{arith}
 use lib.Dec.{T, leb}
 use lib.ListN.{length, take, drop, get_or, length-drop, take-append-drop}
-use lib.Seq.{drop-drop}
+use lib.Seq.{drop-drop, get_or-take}
 use borrow.Author.Tests.{leb-true, leb-false}
 use Rattle.text.specs.Utf8.{Bytes}
 use Rattle.path.specs.Path.{Name}
@@ -141,3 +141,9 @@ module _ (st : Store) (l : Lawful st) where
           let w = subst (λ (us : List Row). T (walk_ok (kind_at st) (length st.heads) p b us)) (ap (λ (m : ℕ). drop m (rows_of st)) (sym next) ∙ e) (walk-behind st l k) in
           let high = above_root p b r.name r.depth (walk-rises (kind_at st) (length st.heads) p b r rs w) in
           absurd (omega (arith, low, high, root-depth st l h))
+
+-- what `block_end` answers of the records that there are
+pub block-live : (st : Store) {ws : List ℕ} {i e : ℕ} → ws ≡ live st → i < count st → e ≡ i + 1 + span (depth_of (get_or ws i 0)) (drop (i + 1) ws)
+    → e ≡ block_end st i
+block-live st {i = i} r h z =
+    z ∙ ap (λ us. i + 1 + span (depth_of (get_or us i 0)) (drop (i + 1) us)) r ∙ ap (λ w. i + 1 + span (depth_of w) (drop (i + 1) (live st))) (get_or-take (count st) st.records i 0 h)

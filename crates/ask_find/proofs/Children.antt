@@ -11,7 +11,7 @@ use native.Mathlib.Numerals.{add-one}
 use native.Mathlib.Omega.{arith}
 use lib.Dec.{eqb, leb}
 use lib.ListN.{length, take, drop, get_or, length-append}
-use lib.Seq.{take-suc, take-append-le, take-append_seam}
+use lib.Seq.{take-suc, get_or-take, take-append-le, take-append_seam}
 use borrow.Author.Tests.{eqb-true, eq-eqb, leb-true, leb-false}
 use Rattle.text.specs.Utf8.{Bytes}
 use Rattle.path.specs.Path.{Name}
@@ -26,6 +26,7 @@ use Rattle.layout.specs.Lawful.{Lawful}
 use Rattle.layout.specs.Parts.{path_after}
 use Rattle.layout.specs.Parts as parts
 use Rattle.layout.proofs.Named.{total-append, total-split}
+use Rattle.layout.proofs.Used.{live-length}
 use Rattle.layout.proofs.Rising.{rise-apart}
 use Rattle.layout.proofs.Edited.Removing.{begins}
 use Rattle.ask_find.specs.declared.Spot.{Spot}
@@ -193,35 +194,46 @@ module _ (st : Store) (l : Lawful st) where
 -- ---- by the slices
 
 -- what `find_child` asks of them
-pub record Ready (ws : List ℕ) (bs : Bytes) (n : ℕ) (s : Spot) : Type 0 where
-  pub long : n ≤ length ws
-  pub within : s.at < n
+pub record Ready (ws : List ℕ) (bs : Bytes) (s : Spot) : Type 0 where
+  pub within : s.at < length ws
   pub next : s.off + nlen_of (get_or ws s.at 0) ≡ name_total (take (s.at + 1) ws)
-  pub room : name_total (take n ws) ≤ length bs
+  pub room : name_total ws ≤ length bs
   pub low : s.off ≤ 1048576
-  pub few : n ≤ 4096
+  pub few : length ws ≤ 4096
 
-pub ready : (ws : List ℕ) (bs : Bytes) (n : ℕ) (s : Spot) → Held ws bs n s → Ready ws bs n s
-ready ws bs n s h =
+-- the word of an entry's record, and its offset, by the records that there are
+pub word-live : (st : Store) (i : ℕ) → i < count st → get_or (live st) i 0 ≡ get_or st.records i 0
+word-live st i h = get_or-take (count st) st.records i 0 h
+
+pub offset-live : (st : Store) → Lawful st → (i : ℕ) → i < count st → name_total (take (i + 1) (live st)) ≡ name_total (take (i + 1) st.records)
+offset-live st l i h = total-live st l (i + 1) (omega arith)
+
+pub ready : (ws : List ℕ) (bs : Bytes) (s : Spot) → Held ws bs s → Ready ws bs s
+ready ws bs s h =
     let st = h.store in
     let l = h.lawful in
+    let n = live-length st l in
+    let i : s.at < count st = h.at.within in
     record {
-      long = omega (arith, ap length h.records, h.counted, l.counted, l.exact.records);
-      within = omega (arith, h.at.within, h.counted);
-      next = subst (λ (us : List ℕ). s.off + nlen_of (get_or us s.at 0) ≡ name_total (take (s.at + 1) us)) h.records (offset-next st l s h.path h.at);
-      room = let z : name_total (live st) ≡ name_total (take n ws) = λ j. name_total (take (h.counted j) (h.records j)) in omega (arith, l.space, l.exact.bytes, ap length h.bytes, z);
+      within = omega (arith, ap length h.records);
+      next = subst (λ (us : List ℕ). s.off + nlen_of (get_or us s.at 0) ≡ name_total (take (s.at + 1) us)) h.records
+          (ap (λ (w : ℕ). s.off + nlen_of w) (word-live st s.at i) ∙ offset-next st l s h.path h.at ∙ sym (offset-live st l s.at i));
+      room = omega (arith, l.space, l.exact.bytes, ap length h.bytes, ap name_total h.records);
       low = offset-low st l s h.path h.at;
-      few = omega (arith, h.counted, l.counted, l.entry_limit.1);
+      few = omega (arith, ap length h.records, l.counted, l.entry_limit.1);
     }
 
 -- what it answers, of a store that has the slices
-module _ (ws : List ℕ) (bs : Bytes) (n : ℕ) (st : Store) (e : st.records ≡ ws) (f : st.bytes ≡ bs) (c : count st ≡ n) where
-  pub asked_is : (s : Spot) (x : Name) (m : ℕ) → find_in (depth_of (get_or ws s.at 0)) x (drop (s.at + 1) (rows (take n ws) bs)) (s.at + 1) m
+module _ (ws : List ℕ) (bs : Bytes) (st : Store) (e : live st ≡ ws) (f : st.bytes ≡ bs) (s : Spot) (h : s.at < count st) where
+  depth-live : depth_of (get_or ws s.at 0) ≡ depth_of (get_or st.records s.at 0)
+  depth-live = ap (λ (us : List ℕ). depth_of (get_or us s.at 0)) (sym e) ∙ ap depth_of (word-live st s.at h)
+
+  pub asked_is : (x : Name) (m : ℕ) → find_in (depth_of (get_or ws s.at 0)) x (drop (s.at + 1) (rows ws bs)) (s.at + 1) m
       ≡ find_in (depth_of (get_or st.records s.at 0)) x (drop (s.at + 1) (rows_of st)) (s.at + 1) m
-  asked_is s x m = λ j. find_in (depth_of (get_or (sym e j) s.at 0)) x (drop (s.at + 1) (rows (take (sym c j) (sym e j)) (sym f j))) (s.at + 1) m
+  asked_is x m = λ j. find_in (depth-live j) x (drop (s.at + 1) (rows (sym e j) (sym f j))) (s.at + 1) m
 
-  pub next_is : (s : Spot) (m : ℕ) → m ≡ name_total (take (s.at + 1) ws) → m ≡ name_total (take (s.at + 1) st.records)
-  next_is s m z = z ∙ ap (λ (us : List ℕ). name_total (take (s.at + 1) us)) (sym e)
+  pub next_is : Lawful st → (m : ℕ) → m ≡ name_total (take (s.at + 1) ws) → m ≡ name_total (take (s.at + 1) st.records)
+  next_is l m z = z ∙ ap (λ (us : List ℕ). name_total (take (s.at + 1) us)) (sym e) ∙ offset-live st l s.at h
 
-  pub depth_is : (s : Spot) (g : ℕ) → g ≡ depth_of (get_or ws s.at 0) + 1 → g ≡ depth_of (get_or st.records s.at 0) + 1
-  depth_is s g z = z ∙ ap (λ (us : List ℕ). depth_of (get_or us s.at 0) + 1) (sym e)
+  pub depth_is : (g : ℕ) → g ≡ depth_of (get_or ws s.at 0) + 1 → g ≡ depth_of (get_or st.records s.at 0) + 1
+  depth_is g z = z ∙ ap (λ (d : ℕ). d + 1) depth-live

@@ -9,7 +9,7 @@ use Prim.Native.Nat.{ℕ, suc, ◌+◌, ◌-◌, ◌≤◌, ◌<◌}
 use native.Mathlib.Omega.{arith}
 use lib.Dec.{eqb}
 use lib.ListN.{length, take, drop, get_or, length-drop, drop_of_length-le}
-use lib.Seq.{drop-cons, drop-drop, take-take, length-take-le}
+use lib.Seq.{drop-cons, drop-drop, length-take-le}
 use borrow.Author.Tests.{le-leb, lt-leb, eq-eqb, ne_eqb, eqb-true, eqb-false, not-false}
 use Rattle.text.specs.Utf8.{Bytes}
 use Rattle.layout.specs.Fields.{depth_of, nlen_of}
@@ -20,17 +20,15 @@ use Rattle.std.specs.declared.cmp.Ordering.TheVariants.{Less, Equal, Greater}
 use Rattle.name_order.proofs.Keys.{key-less}
 use Rattle.ask_find.specs.Finds.{spot, find_in, scan, Within}
 
--- what the scan starts with, among the first n records
-pub record Start (ws : List ℕ) (bs : Bytes) (n d : ℕ) (x : Bytes) (j o : ℕ) : Type 0 where
-  pub within : Within (take n ws) bs (spot j o)
-  pub same : scan (take n ws) bs d x (spot j o) ≡ find_in d x (drop j (rows (take n ws) bs)) j o
+-- what the scan starts with
+pub record Start (ws : List ℕ) (bs : Bytes) (d : ℕ) (x : Bytes) (j o : ℕ) : Type 0 where
+  pub within : Within ws bs (spot j o)
+  pub same : scan ws bs d x (spot j o) ≡ find_in d x (drop j (rows ws bs)) j o
 
-pub scan-start : (ws : List ℕ) (bs : Bytes) (n d : ℕ) (x : Bytes) (j o : ℕ) → n ≤ length ws → j ≤ n → o ≡ name_total (take j ws) → name_total (take n ws) ≤ length bs
-    → Start ws bs n d x j o
-scan-start ws bs n d x j o k l e h =
-    let t : take j (take n ws) ≡ take j ws = take-take j n ws l in
+pub scan-start : (ws : List ℕ) (bs : Bytes) (d : ℕ) (x : Bytes) (j o : ℕ) → j ≤ length ws → o ≡ name_total (take j ws) → name_total ws ≤ length bs → Start ws bs d x j o
+scan-start ws bs d x j o l e h =
     let a : name_total (take j ws) ≡ o = sym e in
-    record { within = (omega (arith, length-take-le n ws k), omega (arith, e, h, rw t at (total-split (take n ws) j))); same = sym (rw (sym (rows_drop (take n ws) bs j), t, a)) }
+    record { within = (l, omega (arith, e, h, total-split ws j)); same = sym (rw (sym (rows_drop ws bs j), a)) }
 
 pub scan-end : (ws : List ℕ) (bs : Bytes) (d : ℕ) (x : Bytes) (j o : ℕ) → length ws ≤ j → scan ws bs d x (spot j o) ≡ Err (spot j o)
 unfolding find_in rows

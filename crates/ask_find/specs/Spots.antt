@@ -27,13 +27,12 @@ pub record At (st : Store) (s : Spot) (p : Path) : Type 0 where
 abbrev pub Directory : Store → Path → Type 0
 Directory st p = answer (kind? p) (world_of (state st)) ≡ some a_dir
 
--- the slices are a lawful store's, and the spot is one of its entries
-pub record Held (ws : List ℕ) (bs : Bytes) (n : ℕ) (s : Spot) : Type 0 where
+-- the words are those of a lawful store's records, the bytes are its own, and the spot is one of its entries
+pub record Held (ws : List ℕ) (bs : Bytes) (s : Spot) : Type 0 where
   pub store : Store
   pub path : Path
-  pub records : store.records ≡ ws
+  pub records : live store ≡ ws
   pub bytes : store.bytes ≡ bs
-  pub counted : count store ≡ n
   pub lawful : Lawful store
   pub at : At store s path
 
@@ -78,9 +77,9 @@ Looks st h t p x (Ok s) = Seen st h t (p ++ (x ∷ [])) s
 Looks st h t p x (Err g) = (look t (p ++ (x ∷ [])) ≡ none) × Vacant st h p x g
 
 -- the entry x of the directory at the spot s, where record h counts as not there
-abbrev pub ChildIs : List ℕ → Bytes → ℕ → Spot → Name → ℕ → Result Spot Gap → Type 0
-ChildIs ws bs n s x h r =
-    (st : Store) → st.records ≡ ws → st.bytes ≡ bs → count st ≡ n → Lawful st → (p : Path) (t : Entries) → At st s p → Hides st h p t → Directory st p → Looks st h t p x r
+abbrev pub ChildIs : List ℕ → Bytes → Spot → Name → ℕ → Result Spot Gap → Type 0
+ChildIs ws bs s x h r =
+    (st : Store) → live st ≡ ws → st.bytes ≡ bs → Lawful st → (p : Path) (t : Entries) → At st s p → Hides st h p t → Directory st p → Looks st h t p x r
 
 -- what is said of the root
 abbrev pub Rooted : Store → Result Spot Gap → Type 0

@@ -141,18 +141,17 @@ fn find_child(
 pub fn child(
     records: &[u64],
     bytes: &[u8],
-    count: usize,
     dir: Spot,
     name: &[u8],
     hidden: usize,
 ) -> Result<Spot, Gap>
-    requires { Held records.now bytes.now count dir }
-    ensures { ChildIs records.now bytes.now count dir name.now hidden result }
+    requires { Held records.now bytes.now dir }
+    ensures { ChildIs records.now bytes.now dir name.now hidden result }
 {
     let w = records[dir.at];
     let d = depth_of(w);
     let depth = d + 1;
-    match find_child(&records[..count], bytes, d, dir.behind(w), name) {
+    match find_child(records, bytes, d, dir.behind(w), name) {
         Ok(spot) if spot.at != hidden => Ok(spot),
         Ok(spot) => Err(spot.gap(depth)),
         Err(spot) => Err(spot.gap(depth)),
@@ -174,12 +173,12 @@ pub fn root(count: usize) -> Result<Spot, Gap>
 }
 
 // The record behind all that lies below record i.
-pub fn block_end(records: &[u64], count: usize, i: usize) -> usize
-    requires { (count ≤ length records.now) × (i < count) }
-    ensures { result ≡ i + 1 + span (depth_of (get_or records.now i 0)) (drop (i + 1) (take count records.now)) }
+pub fn block_end(records: &[u64], i: usize) -> usize
+    requires { i < length records.now }
+    ensures { result ≡ i + 1 + span (depth_of (get_or records.now i 0)) (drop (i + 1) records.now) }
 {
     let d = depth_of(records[i]);
-    let behind = &records[i + 1..count];
+    let behind = &records[i + 1..];
     let below = behind.iter().position(|w| depth_of(*w) <= d);
     i + 1 + below.unwrap_or(behind.len())
 }

@@ -26,7 +26,7 @@ use Rattle.layout.proofs.Used.{live-length}
 use Rattle.ask_find.specs.declared.Spot.{Spot}
 use Rattle.ask_find.specs.Paths.{path_at}
 use Rattle.ask_find.specs.Spots.{At, Held}
-use Rattle.ask_find.proofs.Children.{offset-next}
+use Rattle.ask_find.proofs.Children.{word-live, offset-next}
 use Rattle.ask_find.proofs.Records.{total-live}
 use Rattle.ask_list.specs.declared.entries.Entry.{Entry}
 use Rattle.ask_list.specs.Entries.{entries_at, entries_behind, next_spot}
@@ -50,11 +50,14 @@ module _ (st : Store) (l : Lawful st) where
 
     -- the entries below it
     abbrev es : List Entry
-    es = entries_behind st.records (count st) s (suc d)
+    es = entries_at (suc d) (drop (i + 1) (live st)) from
 
     -- by the records that were read
-    pub by_records : (ws : List ℕ) (n : ℕ) → st.records ≡ ws → count st ≡ n → entries_behind ws n s (depth_of (get_or ws i 0) + 1) ≡ es
-    by_records ws n e c = (λ j. entries_behind (sym e j) (sym c j) s (depth_of (get_or (sym e j) i 0) + 1)) ∙ ap (entries_behind st.records (count st) s) (add-one d)
+    pub by_records : (ws : List ℕ) → live st ≡ ws → entries_behind ws s (depth_of (get_or ws i 0) + 1) ≡ es
+    by_records ws e =
+        (λ j. entries_behind (sym e j) s (depth_of (get_or (sym e j) i 0) + 1))
+        ∙ ap (λ (w : ℕ). entries_at (depth_of w + 1) (drop (i + 1) (live st)) (next_spot s w)) (word-live st i a.within)
+        ∙ ap (λ (m : ℕ). entries_at m (drop (i + 1) (live st)) from) (add-one d)
 
     behind : drop (i + 1) (rows_of st) ≡ rows (drop (i + 1) (live st)) (drop from.off st.bytes)
     behind =
@@ -146,12 +149,12 @@ module _ (st : Store) (l : Lawful st) where
       rw (listing-spot st l s p a, u) z
 
   -- behind an entry
-  pub leads-beside : (s : Spot) (p : Path) (x : Name) (a : At st s (p ++ (x ∷ []))) → Leading p (behind_in st p s) (entries_behind st.records (count st) s (depth_of (get_or st.records s.at 0)))
+  pub leads-beside : (s : Spot) (p : Path) (x : Name) (a : At st s (p ++ (x ∷ []))) → Leading p (behind_in st p s) (entries_behind (live st) s (depth_of (get_or (live st) s.at 0)))
   leads-beside s p x a =
       let b : s.at + 1 - 1 ≡ s.at = omega arith in
       let z = leading p (drop (s.at + 1) (live st)) (s.at + 1) (s.off + nlen_of (get_or st.records s.at 0)) (omega arith) refl
       (ap (λ (k : ℕ). take (length p) (path_at st k)) b ∙ entry-up st l s p x a) (offset-next st l s (p ++ (x ∷ [])) a) in
-      rw (entry-depth st l s p x a) z
+      rw (word-live st s.at a.within, entry-depth st l s p x a) z
 
   -- by what a call gave
   pub rest_by : (p : Path) (u : List (Name × Stat)) (es fs : List Entry) (r : Option Entry) → Leading p u es → MatchOption r ((es ≡ []) × (fs ≡ [])) (λ x. es ≡ x ∷ fs) → Rest st p u (option_map (λ (x : Entry). x.spot) r)
@@ -167,18 +170,17 @@ module _ (st : Store) (l : Lawful st) where
 -- ---- the text of the names
 
 -- the text of all, by the slices
-abbrev pub whole : List ℕ → Bytes → ℕ → Spot → Bytes
-whole ws bs n s = text_of bs (entries_behind ws n s (depth_of (get_or ws s.at 0) + 1))
+abbrev pub whole : List ℕ → Bytes → Spot → Bytes
+whole ws bs s = text_of bs (entries_behind ws s (depth_of (get_or ws s.at 0) + 1))
 
-pub whole-told : (ws : List ℕ) (bs : Bytes) (n : ℕ) (s : Spot) (st : Store) (l : Lawful st) (p : Path) (a : At st s p) → st.records ≡ ws → count st ≡ n → st.bytes ≡ bs
-    → whole ws bs n s ≡ names_text (listing_of st p)
-whole-told ws bs n s st l p a e c b = (λ j. text_of (sym b j) (by_records st l s p a ws n e c j)) ∙ text-told st l s p a
+pub whole-told : (ws : List ℕ) (bs : Bytes) (s : Spot) (st : Store) (l : Lawful st) (p : Path) (a : At st s p) → live st ≡ ws → st.bytes ≡ bs → whole ws bs s ≡ names_text (listing_of st p)
+whole-told ws bs s st l p a e b = (λ j. text_of (sym b j) (by_records st l s p a ws e j)) ∙ text-told st l s p a
 
 -- there is room for it, and the names stand within the bytes
-pub whole-room : (ws : List ℕ) (bs : Bytes) (n : ℕ) (s : Spot) (to : Bytes) → Roomy ws bs n s to → length (whole ws bs n s) ≤ length to
-whole-room ws bs n s to r = let h = r.held in omega (arith, r.fits, ap length (whole-told ws bs n s h.store h.lawful h.path h.at h.records h.counted h.bytes))
+pub whole-room : (ws : List ℕ) (bs : Bytes) (s : Spot) (to : Bytes) → Roomy ws bs s to → length (whole ws bs s) ≤ length to
+whole-room ws bs s to r = let h = r.held in omega (arith, r.fits, ap length (whole-told ws bs s h.store h.lawful h.path h.at h.records h.bytes))
 
-pub whole-fits : (ws : List ℕ) (bs : Bytes) (n : ℕ) (s : Spot) → Held ws bs n s → Fits bs (entries_behind ws n s (depth_of (get_or ws s.at 0) + 1))
-whole-fits ws bs n s h =
+pub whole-fits : (ws : List ℕ) (bs : Bytes) (s : Spot) → Held ws bs s → Fits bs (entries_behind ws s (depth_of (get_or ws s.at 0) + 1))
+whole-fits ws bs s h =
     let st = h.store in
-    transport (λ j. Fits (h.bytes j) (sym (by_records st h.lawful s h.path h.at ws n h.records h.counted) j)) (all-fit st h.lawful s h.path h.at)
+    transport (λ j. Fits (h.bytes j) (sym (by_records st h.lawful s h.path h.at ws h.records) j)) (all-fit st h.lawful s h.path h.at)

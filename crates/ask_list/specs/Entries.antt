@@ -1,6 +1,6 @@
 -- The entries of a directory among the records behind it, by their spots.
 -- Assumes nothing.
-use Rattle.std.specs.Prelude.{Bool, cond, List, [], ◌∷◌, ℕ, ◌+◌, nat_lt, nat_eq, take, drop, get_or}
+use Rattle.std.specs.Prelude.{Bool, cond, List, [], ◌∷◌, ℕ, ◌+◌, nat_lt, nat_eq, drop, get_or}
 use Rattle.layout.specs.Fields.{depth_of, nlen_of}
 use Rattle.ask_find.specs.declared.Spot.{Spot}
 use Rattle.ask_list.specs.declared.entries.Entry.{Entry}
@@ -19,6 +19,6 @@ entries_at m [] s = []
 entries_at m (w ∷ ws) s =
     cond (nat_lt (depth_of w) m) [] (given (nat_eq (depth_of w) m) (record { spot = s; size = nlen_of w }) (entries_at m ws (next_spot s w)))
 
--- those of depth m behind the entry at a spot, one of the first n records
-abbrev pub entries_behind : List ℕ → ℕ → Spot → ℕ → List Entry
-entries_behind ws n s m = entries_at m (drop (s.at + 1) (take n ws)) (next_spot s (get_or ws s.at 0))
+-- those of depth m behind the entry at a spot
+abbrev pub entries_behind : List ℕ → Spot → ℕ → List Entry
+entries_behind ws s m = entries_at m (drop (s.at + 1) ws) (next_spot s (get_or ws s.at 0))

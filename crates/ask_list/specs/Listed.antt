@@ -9,7 +9,7 @@ use Rattle.model.specs.Prog.{World, Stat, stat_of, child, listing, bare?, stat?,
 use Rattle.model.specs.Operations.Shows.{names_text}
 use Rattle.model.specs.Calls.States.{world_of}
 use Rattle.layout.specs.Rows.{Row}
-use Rattle.layout.specs.Store.{Store, count, rows_of, node_at, state}
+use Rattle.layout.specs.Store.{Store, live, rows_of, node_at, state}
 use Rattle.layout.specs.Lawful.{Lawful}
 use Rattle.ask_find.specs.declared.Spot.{Spot}
 use Rattle.ask_find.specs.Paths.{path_at}
@@ -49,39 +49,39 @@ listed_from st d j = shown (world_of (state st)) (node_at st) (entries_in d (dro
 
 -- ---- what the functions tell
 
--- the records are a lawful store's, and the spot is one of its entries
-abbrev pub Placed : List ℕ → ℕ → Spot → Type 0
-Placed ws n s = (bs : Bytes) × Held ws bs n s
+-- the words are those of a lawful store's records, and the spot is one of its entries
+abbrev pub Placed : List ℕ → Spot → Type 0
+Placed ws s = (bs : Bytes) × Held ws bs s
 
 -- said of every lawful store that has the records, the spot being the entry at the path
-abbrev pub Told : List ℕ → ℕ → Spot → (Store → Path → Type 0) → Type 0
-Told ws n s say = (st : Store) → st.records ≡ ws → count st ≡ n → Lawful st → (p : Path) → At st s p → say st p
+abbrev pub Told : List ℕ → Spot → (Store → Path → Type 0) → Type 0
+Told ws s say = (st : Store) → live st ≡ ws → Lawful st → (p : Path) → At st s p → say st p
 
 -- the model's listing of the directory at a path
 abbrev pub listing_of : Store → Path → List (Name × Stat)
 listing_of st p = listing (world_of (state st)) p
 
 -- whether it shows nothing
-abbrev pub TellsBare : List ℕ → ℕ → Spot → Bool → Type 0
-TellsBare ws n s r = Told ws n s (λ st p. r ≡ answer (bare? p) (world_of (state st)))
+abbrev pub TellsBare : List ℕ → Spot → Bool → Type 0
+TellsBare ws s r = Told ws s (λ st p. r ≡ answer (bare? p) (world_of (state st)))
 
 -- how many entries it shows
-abbrev pub TellsCount : List ℕ → ℕ → Spot → ℕ → Type 0
-TellsCount ws n s r = Told ws n s (λ st p. r ≡ length (listing_of st p))
+abbrev pub TellsCount : List ℕ → Spot → ℕ → Type 0
+TellsCount ws s r = Told ws s (λ st p. r ≡ length (listing_of st p))
 
 -- how long the text of its names is
-abbrev pub TellsLength : List ℕ → ℕ → Spot → ℕ → Type 0
-TellsLength ws n s r = Told ws n s (λ st p. r ≡ length (names_text (listing_of st p)))
+abbrev pub TellsLength : List ℕ → Spot → ℕ → Type 0
+TellsLength ws s r = Told ws s (λ st p. r ≡ length (names_text (listing_of st p)))
 
 -- there is room for that text
-pub record Roomy (ws : List ℕ) (bs : Bytes) (n : ℕ) (s : Spot) (out : Bytes) : Type 0 where
-  pub held : Held ws bs n s
+pub record Roomy (ws : List ℕ) (bs : Bytes) (s : Spot) (out : Bytes) : Type 0 where
+  pub held : Held ws bs s
   pub fits : length (names_text (listing_of held.store held.path)) ≤ length out
 
 -- the text stands in front
-abbrev pub TellsNames : List ℕ → Bytes → ℕ → Spot → Bytes → Bytes → Type 0
-TellsNames ws bs n s old new =
-    Told ws n s (λ st p. st.bytes ≡ bs → new ≡ in_front (names_text (listing_of st p)) old)
+abbrev pub TellsNames : List ℕ → Bytes → Spot → Bytes → Bytes → Type 0
+TellsNames ws bs s old new =
+    Told ws s (λ st p. st.bytes ≡ bs → new ≡ in_front (names_text (listing_of st p)) old)
 
 -- ---- entry by entry
 
@@ -103,9 +103,9 @@ Rest st p l (Some s) = Leads st p s l
 Rest st p l None = l ≡ []
 
 -- the first entry of the directory at the spot
-abbrev pub FirstIs : List ℕ → ℕ → Spot → Option Spot → Type 0
-FirstIs ws n s r = Told ws n s (λ st p. Rest st p (listing_of st p) r)
+abbrev pub FirstIs : List ℕ → Spot → Option Spot → Type 0
+FirstIs ws s r = Told ws s (λ st p. Rest st p (listing_of st p) r)
 
 -- the entry behind the one at the spot, in its directory
-abbrev pub NextIs : List ℕ → ℕ → Spot → Option Spot → Type 0
-NextIs ws n s r = Told ws n s (λ st o. (p : Path) (x : Name) → o ≡ p ++ (x ∷ []) → Rest st p (behind_in st p s) r)
+abbrev pub NextIs : List ℕ → Spot → Option Spot → Type 0
+NextIs ws s r = Told ws s (λ st o. (p : Path) (x : Name) → o ≡ p ++ (x ∷ []) → Rest st p (behind_in st p s) r)

@@ -27,12 +27,12 @@ pub struct Entries<'a> {
 
 impl<'a> Entries<'a> {
     // The entries of a depth behind the one at the spot.
-    pub fn behind(records: &'a [u64], count: usize, spot: Spot, depth: usize) -> Entries<'a>
-        requires { Placed records.now count spot }
-        ensures { entries_at result.depth result.left.now result.spot ≡ entries_behind records.now count spot depth }
+    pub fn behind(records: &'a [u64], spot: Spot, depth: usize) -> Entries<'a>
+        requires { Placed records.now spot }
+        ensures { entries_at result.depth result.left.now result.spot ≡ entries_behind records.now spot depth }
     {
         Entries {
-            left: &records[spot.at + 1..count],
+            left: &records[spot.at + 1..],
             spot: spot.behind(records[spot.at]),
             depth,
         }

@@ -14,57 +14,53 @@ use entries::Entries;
 use layout::depth_of;
 
 // The entries of the directory at the spot: they are one deeper.
-fn below(records: &[u64], count: usize, spot: Spot) -> Entries<'_>
-    requires { Placed records.now count spot }
+fn below(records: &[u64], spot: Spot) -> Entries<'_>
+    requires { Placed records.now spot }
     ensures { entries_at result.depth result.left.now result.spot
-        ≡ entries_behind records.now count spot (depth_of (get_or records.now spot.at 0) + 1) }
+        ≡ entries_behind records.now spot (depth_of (get_or records.now spot.at 0) + 1) }
 {
-    Entries::behind(records, count, spot, depth_of(records[spot.at]) + 1)
+    Entries::behind(records, spot, depth_of(records[spot.at]) + 1)
 }
 
 // Whether the directory at the spot has none.
-pub fn is_bare(records: &[u64], count: usize, spot: Spot) -> bool
-    requires { Placed records.now count spot }
-    ensures { TellsBare records.now count spot result }
+pub fn is_bare(records: &[u64], spot: Spot) -> bool
+    requires { Placed records.now spot }
+    ensures { TellsBare records.now spot result }
 {
-    first(records, count, spot).is_none()
+    first(records, spot).is_none()
 }
 
 // The first entry of the directory at the spot.
-pub fn first(records: &[u64], count: usize, spot: Spot) -> Option<Spot>
-    requires { Placed records.now count spot }
-    ensures { FirstIs records.now count spot result }
+pub fn first(records: &[u64], spot: Spot) -> Option<Spot>
+    requires { Placed records.now spot }
+    ensures { FirstIs records.now spot result }
 {
-    below(records, count, spot).next().map(|e| e.spot)
+    below(records, spot).next().map(|e| e.spot)
 }
 
 // The entry behind the one at the spot, in the same directory. What lies below it is passed.
-pub fn next(records: &[u64], count: usize, spot: Spot) -> Option<Spot>
-    requires { Placed records.now count spot }
-    ensures { NextIs records.now count spot result }
+pub fn next(records: &[u64], spot: Spot) -> Option<Spot>
+    requires { Placed records.now spot }
+    ensures { NextIs records.now spot result }
 {
     let d = depth_of(records[spot.at]);
-    Entries::behind(records, count, spot, d)
-        .next()
-        .map(|e| e.spot)
+    Entries::behind(records, spot, d).next().map(|e| e.spot)
 }
 
 // How many entries the directory at the spot has.
-pub fn entry_count(records: &[u64], count: usize, spot: Spot) -> usize
-    requires { Placed records.now count spot }
-    ensures { TellsCount records.now count spot result }
+pub fn entry_count(records: &[u64], spot: Spot) -> usize
+    requires { Placed records.now spot }
+    ensures { TellsCount records.now spot result }
 {
-    below(records, count, spot).count()
+    below(records, spot).count()
 }
 
 // The bytes of the names of the entries of the directory at the spot, with a zero byte behind each.
-pub fn names_length(records: &[u64], count: usize, spot: Spot) -> usize
-    requires { Placed records.now count spot }
-    ensures { TellsLength records.now count spot result }
+pub fn names_length(records: &[u64], spot: Spot) -> usize
+    requires { Placed records.now spot }
+    ensures { TellsLength records.now spot result }
 {
-    below(records, count, spot)
-        .map(|e| usize::from(e.size) + 1)
-        .sum()
+    below(records, spot).map(|e| usize::from(e.size) + 1).sum()
 }
 
 // Writes a name and a zero byte from index at on.
@@ -78,12 +74,12 @@ fn put_name(out: &mut [u8], at: usize, name: &[u8])
 }
 
 // Writes the names of the entries of the directory at the spot to out, in order, with a zero byte behind each.
-pub fn put_names(out: &mut [u8], records: &[u64], bytes: &[u8], count: usize, spot: Spot)
-    requires { Roomy records.now bytes.now count spot out.old }
-    ensures { TellsNames records.now bytes.now count spot out.old out.new }
+pub fn put_names(out: &mut [u8], records: &[u64], bytes: &[u8], spot: Spot)
+    requires { Roomy records.now bytes.now spot out.old }
+    ensures { TellsNames records.now bytes.now spot out.old out.new }
 {
     let mut k = 0;
-    for entry in below(records, count, spot) {
+    for entry in below(records, spot) {
         let o = entry.spot.off;
         let n = usize::from(entry.size);
         put_name(out, k, &bytes[o..o + n]);

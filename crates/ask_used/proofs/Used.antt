@@ -5,7 +5,7 @@ use mathlib.Core.Bool.{Bool, true, false, cond}
 use Rattle.std.specs.List.{filter}
 use mathlib.Core.List.{List, [], ◌∷◌}
 use mathlib.Core.Logic.{◌⊎◌, inl, inr}
-use mathlib.Core.Path.{◌≡◌, refl, sym, ap, ◌∙◌, subst}
+use mathlib.Core.Path.{◌≡◌, refl, sym, ap, ◌∙◌, subst, transport}
 use Prim.Native.Nat.{ℕ, zero, suc, ◌+◌, ◌*◌, ◌≤◌, ◌<◌}
 use native.Mathlib.Nat.{zero-mul, one-mul}
 use native.Mathlib.Omega.{arith}
@@ -29,6 +29,7 @@ use Rattle.layout.proofs.Walks.{SlotsIn}
 use Rattle.ask_used.specs.Totals.{head_of, Slotted, held_total, link_total, tree_bytes}
 use Rattle.slots.specs.Uses.{uses_in, Within}
 use Rattle.slots.proofs.Rowed.{uses-rows, words_within, used-once}
+use Rattle.ask_used.specs.Answers.{Linked}
 use Rattle.ask_used.specs.Unnamed.{AllClosed, alone, alone_from, unnamed}
 
 -- ---- links
@@ -211,5 +212,11 @@ module _ (ws rs hs : List ℕ) (st : Store) (e : st.words ≡ ws) (f : st.record
   pub used_all : tree_bytes (take (get_or ws 2 0) rs) hs + unnamed (take (get_or ws 2 0) rs) hs ≡ bytes_used (state st)
   used_all = (λ j. tree_bytes (take (get_or (sym e j) 2 0) (sym f j)) (sym g j) + unnamed (take (get_or (sym e j) 2 0) (sym f j)) (sym g j)) ∙ bytes_by st l
 
-pub links-told : (rs hs : List ℕ) (n : ℕ) (st : Store) → st.records ≡ rs → st.heads ≡ hs → count st ≡ n → Lawful st → link_total hs (take n rs) ≡ links_in (state st).tree
-links-told rs hs n st e f c l = (λ j. link_total (sym f j) (take (sym c j) (sym e j))) ∙ links_by st l
+pub links-told : (rs hs : List ℕ) (st : Store) → live st ≡ rs → st.heads ≡ hs → Lawful st → link_total hs rs ≡ links_in (state st).tree
+links-told rs hs st e f l = (λ j. link_total (sym f j) (sym e j)) ∙ links_by st l
+
+-- their slots are slots
+pub links-slotted : (rs hs : List ℕ) → Linked rs hs → Slotted hs rs
+links-slotted rs hs h =
+    let st = h.store in
+    transport (λ j. Slotted (h.heads j) (h.records j)) (fine st h.lawful (count st) st.records st.heads refl refl refl).slots

@@ -7,7 +7,7 @@ use Rattle.model.specs.Tree.{Path, Meta, File, Node, file, link, look, file_of, 
 use Rattle.model.specs.Calls.States.{bytes_used, is_held}
 use Rattle.model.specs.Space.{freed_by}
 use Rattle.layout.specs.Numbers.{file_numbers}
-use Rattle.layout.specs.Store.{Store, lent, count, state}
+use Rattle.layout.specs.Store.{Store, lent, live, state}
 use Rattle.layout.specs.Lawful.{held_from, Lawful}
 use Rattle.ask_find.specs.declared.Spot.{Spot}
 use Rattle.ask_find.specs.Spots.{At}
@@ -21,12 +21,11 @@ pub record Counted (ws rs hs : List ℕ) : Type 0 where
   pub heads : store.heads ≡ hs
   pub lawful : Lawful store
 
--- the same of the records and the number of entries
-pub record Linked (rs hs : List ℕ) (n : ℕ) : Type 0 where
+-- the same of the records that there are
+pub record Linked (rs hs : List ℕ) : Type 0 where
   pub store : Store
-  pub records : store.records ≡ rs
+  pub records : live store ≡ rs
   pub heads : store.heads ≡ hs
-  pub counted : count store ≡ n
   pub lawful : Lawful store
 
 -- bytes used
@@ -34,8 +33,8 @@ abbrev pub TellsUsed : List ℕ → List ℕ → List ℕ → ℕ → Type 0
 TellsUsed ws rs hs r = (st : Store) → st.words ≡ ws → st.records ≡ rs → st.heads ≡ hs → Lawful st → r ≡ bytes_used (state st)
 
 -- the number of links
-abbrev pub TellsLinks : List ℕ → List ℕ → ℕ → ℕ → Type 0
-TellsLinks rs hs n r = (st : Store) → st.records ≡ rs → st.heads ≡ hs → count st ≡ n → Lawful st → r ≡ links_in (state st).tree
+abbrev pub TellsLinks : List ℕ → List ℕ → ℕ → Type 0
+TellsLinks rs hs r = (st : Store) → live st ≡ rs → st.heads ≡ hs → Lawful st → r ≡ links_in (state st).tree
 
 -- ---- what an entry takes up
 

@@ -4,7 +4,7 @@ ghost use Rattle.std.specs.Prelude.{true, ◌≡◌, ℕ, ◌≤◌, ◌<◌, le
 ghost use Rattle.layout.specs.Numbers.{extent_at, most_entries, most_slots};
 ghost use Rattle.layout.specs.Fields.{slot_of};
 ghost use Rattle.slots.specs.Uses.{Within, uses_in};
-ghost use Rattle.ask_used.specs.Totals.{entry_bytes, Slotted, link_total, Upto, Among, tree_bytes, TotalIs, WholeIs};
+ghost use Rattle.ask_used.specs.Totals.{entry_bytes, Slotted, Upto, Among, tree_bytes, TotalIs, WholeIs};
 ghost use Rattle.ask_used.specs.Unnamed.{AllClosed, unnamed, unmarked_bytes};
 ghost use Rattle.ask_used.specs.Answers.{Counted, Linked, Weighed, held_in, TellsUsed, TellsLinks, TellsWeight};
 
@@ -98,18 +98,6 @@ fn tree_bytes(records: &[u64], heads: &[u64]) -> usize
     s
 }
 
-// How many entries are links.
-fn link_count(records: &[u64], heads: &[u64]) -> usize
-    requires { Slotted heads.now records.now }
-    ensures { result ≡ link_total heads.now records.now }
-{
-    let link = Kind::Link.code();
-    records
-        .iter()
-        .filter(|w| kind_of(heads[slot_of(**w)]) == link)
-        .count()
-}
-
 // The bytes of the slots that no record has marked: removed files that are still open.
 fn unmarked(heads: &[u64], marks: &[u8; MOST_SLOTS]) -> usize
     requires { length heads.now ≤ most_slots }
@@ -156,11 +144,15 @@ pub fn bytes_used(words: &[u64], records: &[u64], heads: &[u64]) -> usize
 }
 
 // The number of links in the tree.
-pub fn links_in(records: &[u64], heads: &[u64], count: usize) -> usize
-    requires { Linked records.now heads.now count }
-    ensures { TellsLinks records.now heads.now count result }
+pub fn links_in(records: &[u64], heads: &[u64]) -> usize
+    requires { Linked records.now heads.now }
+    ensures { TellsLinks records.now heads.now result }
 {
-    link_count(&records[..count], heads)
+    let link = Kind::Link.code();
+    records
+        .iter()
+        .filter(|w| kind_of(heads[slot_of(**w)]) == link)
+        .count()
 }
 
 // What an entry takes up: the length of its name, that of a file's contents or a link's target, and whether a file number stands on

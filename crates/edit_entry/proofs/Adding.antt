@@ -55,7 +55,7 @@ pub record Added (st st' : Store) (rs rs' : List Row) (s n h : ℕ) (c : Bytes) 
   pub fits : name_total (live st) + n + total st.heads + length c ≤ room st
   pub more : count st < most st
 
-module _ (st st' : Store) (rs rs' : List Row) (s n h : ℕ) (c : Bytes) (t : Time) (l : Lawful st) (g : Added st st' rs rs' s n h c t) where
+module _ {st st' : Store} {rs rs' : List Row} {s n h : ℕ} {c : Bytes} {t : Time} (l : Lawful st) (g : Added st st' rs rs' s n h c t) where
   -- ---- the slot was free
 
   free-slot : SlotOf st s → (uses s (rows_of st) ≡ 0) × (held_from st 32 0 s ≡ false)
@@ -135,9 +135,9 @@ module _ (st st' : Store) (rs rs' : List Row) (s n h : ℕ) (c : Bytes) (t : Tim
       go : Dec (k ≡ s) → T (slot_ok st' k)
       go (yes e) =
           subst (λ (i : ℕ). T (slot_ok st' i)) (sym e)
-          (subst T (sym (slot_same (ap kind_of new-head) new-head uses-new (same_held st st' (suc (count st)) g.counted 32 0 s ∙ was_free.1) new-bytes)) o)
+          (subst T (sym (slot_same (ap kind_of new-head) new-head uses-new (same_held g.counted 32 0 s ∙ was_free.1) new-bytes)) o)
       go (no e) =
-          subst T (sym (slot_same (ap kind_of (other_head k e)) (other_head k e) (uses_other k e) (same_held st st' (suc (count st)) g.counted 32 0 k) (other_bytes k e))) (l.slots k low)
+          subst T (sym (slot_same (ap kind_of (other_head k e)) (other_head k e) (uses_other k e) (same_held g.counted 32 0 k) (other_bytes k e))) (l.slots k low)
 
   new-total : total st'.heads ≡ total st.heads + length c
   new-total =
@@ -147,9 +147,9 @@ module _ (st st' : Store) (rs rs' : List Row) (s n h : ℕ) (c : Bytes) (t : Tim
   pub added-lawful : T (rows_ok (kind_at st') (length st.heads) rs') → T (slot_by (kind_of h) h 1 false c) → Lawful st'
   added-lawful ok o =
       let r = g.counted in
-      let most-same = same_most st st' (suc (count st)) r in
-      let room_same_lem = same_room st st' (suc (count st)) r in
-      let extent-same = same_extent st st' (suc (count st)) r in
+      let most-same = same_most r in
+      let room_same_lem = same_room r in
+      let extent-same = same_extent r in
       let old = l.exact in
       record {
         exact =
@@ -163,14 +163,14 @@ module _ (st st' : Store) (rs rs' : List Row) (s n h : ℕ) (c : Bytes) (t : Tim
             };
         entry_limit = rw most-same l.entry_limit;
         byte_limit = rw room_same_lem l.byte_limit;
-        counted = rw (new-count st st' (suc (count st)) r (omega (arith, old.words)), most-same) g.more;
+        counted = rw (new-count r (omega (arith, old.words)), most-same) g.more;
         slotted = rw (extent-same, most-same) l.slotted;
         space = rw (g.names, new-total, room_same_lem) (omega (arith, g.fits));
         entries =
             subst (λ (k : ℕ). T (rows_ok (kind_at st') k (rows_of st'))) (sym r.slots)
             (subst (λ (y : List Row). T (rows_ok (kind_at st') (length st.heads) y)) (sym g.new) ok);
         slots = λ k low. slots-ok o k (subst (λ (i : ℕ). k < i) r.slots low);
-        numbers = λ i k. number_ok_lem st st' (suc (count st)) r i (l.numbers i k);
-        here = here-ok st st' (suc (count st)) r l.here;
-        umask = rw (same_mask st st' (suc (count st)) r) l.umask;
+        numbers = λ i k. number_ok_lem r i (l.numbers i k);
+        here = here-ok r l.here;
+        umask = rw (same_mask r) l.umask;
       }

@@ -13,7 +13,7 @@ use Rattle.layout.specs.Lawful.{held_from, kept_ok, number_ok}
 use Rattle.layout.proofs.Edited.Numbers.{held_same, opens_same}
 use Rattle.edit_entry.specs.Growth.{Recounted}
 
-module _ (st st' : Store) (c : ℕ) (r : Recounted st st' c) where
+module _ {st st' : Store} {c : ℕ} (r : Recounted st st' c) where
   -- a word that is not word 2
   other : (i : ℕ) → (i ≡ 2 → ⊥) → get_or st'.words i 0 ≡ get_or st.words i 0
   other i h = ap (λ (ws : List ℕ). get_or ws i 0) r.words ∙ get_or-set_other st.words 2 i c 0 h

@@ -5,7 +5,7 @@ use mathlib.Core.List.{List, [], ◌∷◌, ◌++◌}
 use mathlib.Core.Logic.{◌⊎◌, inl, inr}
 use mathlib.Core.Option.{Option, none, some}
 use mathlib.Core.Path.{◌≡◌, refl, sym, ap, ◌∙◌, subst}
-use Prim.Native.Nat.{ℕ, suc}
+use Prim.Native.Nat.{ℕ}
 use native.Mathlib.Decide.{ℕ_discrete}
 use native.Mathlib.Omega.{arith}
 use lib.Dec.{T, eqb}
@@ -23,7 +23,7 @@ use Rattle.model.specs.Shaped.{HasFile, Shaped}
 use Rattle.model.proofs.Sound.Files.{new-free}
 use Rattle.layout.specs.Fields.{kind_of, mode_of}
 use Rattle.layout.specs.Rows.{Row, tree_from}
-use Rattle.layout.specs.Store.{Store, count, kind_at, node_at, state}
+use Rattle.layout.specs.Store.{Store, kind_at, node_at, state}
 use Rattle.layout.specs.Lawful.{rows_ok, slot_by, Lawful}
 use Rattle.layout.specs.Alike.{Spells}
 use Rattle.layout.proofs.Slotted.{dir_at, file_at_lem, link_at}
@@ -37,7 +37,7 @@ use Rattle.edit_entry.specs.Growth.{new_meta, Grown}
 use Rattle.edit_entry.proofs.Counted.{same_most, same_room, same_mask, same_opens, same_here}
 use Rattle.edit_entry.proofs.Growing.{other_head, other_bytes, other_meta, new-head, new-bytes, new-meta, same_node, grown-lawful}
 
-module _ (st st' : Store) (a b : List Row) (row : Row) (h : ℕ) (c : Bytes) (t : Time) (l : Lawful st) (g : Grown st st' a b row h c t)
+module _ {st st' : Store} {a b : List Row} {row : Row} {h : ℕ} {c : Bytes} {t : Time} (l : Lawful st) (g : Grown st st' a b row h c t)
     (at : Path) (tr : (f : ℕ → Node) → tree_from f [] (a ++ (row ∷ b)) ≡ tree_from f [] a ++ ((at, f row.slot) ∷ tree_from f (path_after [] a) b))
     (rs : T (rows_ok (kind_at st') (length st.heads) (a ++ (row ∷ b)))) (o : T (slot_by (kind_of h) h 1 false c)) (v : look (state st).tree at ≡ none) where
   abbrev s : ℕ
@@ -47,7 +47,7 @@ module _ (st st' : Store) (a b : List Row) (row : Row) (h : ℕ) (c : Bytes) (t 
   was = state st
 
   after : Lawful st'
-  after = grown-lawful st st' a b row h c t l g rs o
+  after = grown-lawful l g rs o
 
   shape : Shaped (state st')
   shape = lawful-shape st' after
@@ -64,8 +64,8 @@ module _ (st st' : Store) (a b : List Row) (row : Row) (h : ℕ) (c : Bytes) (t 
   new-tree =
       ap (tree_from (node_at st') []) g.new
       ∙ (tr (node_at st')
-      ∙ (ap (λ (e : Entries). e ++ ((at, node_at st' s) ∷ tree_from (node_at st') (path_after [] a) b)) (tree-slots (node_at st') (node_at st) [] a (λ k u. same_node st st' a b row h c t l g k (has_first a b k u)))
-      ∙ ap (λ (e : Entries). tree_from (node_at st) [] a ++ ((at, node_at st' s) ∷ e)) (tree-slots (node_at st') (node_at st) (path_after [] a) b (λ k u. same_node st st' a b row h c t l g k (has_second k u)))))
+      ∙ (ap (λ (e : Entries). e ++ ((at, node_at st' s) ∷ tree_from (node_at st') (path_after [] a) b)) (tree-slots (node_at st') (node_at st) [] a (λ k u. same_node l g k (has_first a b k u)))
+      ∙ ap (λ (e : Entries). tree_from (node_at st) [] a ++ ((at, node_at st' s) ∷ e)) (tree-slots (node_at st') (node_at st) (path_after [] a) b (λ k u. same_node l g k (has_second k u)))))
 
   look_is : (n : Node) → node_at st' s ≡ n → (r : Path) → look (state st').tree r ≡ look (put at n was.tree) r
   unfolding put
@@ -77,19 +77,19 @@ module _ (st st' : Store) (a b : List Row) (row : Row) (h : ℕ) (c : Bytes) (t 
   -- ---- files and numbers
 
   same-file : (i : ℕ) → (i ≡ s → ⊥) → file_at st' i ≡ file_at st i
-  same-file i e = rw (other_meta st st' a b row h c t l g i e, other_bytes st st' a b row h c t l g i e) refl
+  same-file i e = rw (other_meta l g i e, other_bytes l g i e) refl
 
   old-file : (i : ℕ) (f : File) → (i ≡ s → ⊥) → file_of (state st').files i ≡ some f → file_of was.files i ≡ some f
   old-file i f e k =
       let y = file-found st' (length st'.heads) 0 i f k in
-      file_there st (length st.heads) 0 i (omega arith) (omega (arith, g.counted.slots)) (sym (ap kind_of (other_head st st' a b row h c t l g i e)) ∙ y.kind)
+      file_there st (length st.heads) 0 i (omega arith) (omega (arith, g.counted.slots)) (sym (ap kind_of (other_head l g i e)) ∙ y.kind)
       ∙ ap some (sym (same-file i e) ∙ sym y.file)
 
   same_open : (n : ℕ) → open_of (state st').opens n ≡ open_of was.opens n
-  same_open n = ap (λ (y : List Open). open_of y n) (same_opens st st' (suc (count st)) g.counted)
+  same_open n = ap (λ (y : List Open). open_of y n) (same_opens g.counted)
 
   new-kind : kind_at st' s ≡ kind_of h
-  new-kind = ap kind_of (new-head st st' a b row h c t l g)
+  new-kind = ap kind_of (new-head l g)
 
   -- ---- a directory or a link
 
@@ -110,14 +110,14 @@ module _ (st st' : Store) (a b : List Row) (row : Row) (h : ℕ) (c : Bytes) (t 
         lawful = after;
         alike =
             same_alike (state st') was (apply (make at (new_meta (mode_of h) t)) (world_of was)) shape
-            (look_is (dir (new_meta (mode_of h) t)) (dir_at st' s (new-kind ∙ e) ∙ ap dir (new-meta st st' a b row h c t l g)))
+            (look_is (dir (new_meta (mode_of h) t)) (dir_at st' s (new-kind ∙ e) ∙ ap dir (new-meta l g)))
             same_open
             (λ i f _ k. no_file (λ d. omega (arith, d, e)) i f k)
-            (same_here st st' (suc (count st)) g.counted)
-            (same_mask st st' (suc (count st)) g.counted)
+            (same_here g.counted)
+            (same_mask g.counted)
             (once (dir (new_meta (mode_of h) t)))
-            (same_most st st' (suc (count st)) g.counted)
-            (same_room st st' (suc (count st)) g.counted);
+            (same_most g.counted)
+            (same_room g.counted);
       }
 
   pub grown-link : kind_of h ≡ 3 → Spells st' (edited (symlink at (new_meta (mode_of h) t) c) was)
@@ -127,14 +127,14 @@ module _ (st st' : Store) (a b : List Row) (row : Row) (h : ℕ) (c : Bytes) (t 
         lawful = after;
         alike =
             same_alike (state st') was (apply (symlink at (new_meta (mode_of h) t) c) (world_of was)) shape
-            (look_is (link (new_meta (mode_of h) t) c) (link_at st' s (new-kind ∙ e) ∙ rw (new-meta st st' a b row h c t l g, new-bytes st st' a b row h c t l g) refl))
+            (look_is (link (new_meta (mode_of h) t) c) (link_at st' s (new-kind ∙ e) ∙ rw (new-meta l g, new-bytes l g) refl))
             same_open
             (λ i f _ k. no_file (λ d. omega (arith, d, e)) i f k)
-            (same_here st st' (suc (count st)) g.counted)
-            (same_mask st st' (suc (count st)) g.counted)
+            (same_here g.counted)
+            (same_mask g.counted)
             (once (link (new_meta (mode_of h) t) c))
-            (same_most st st' (suc (count st)) g.counted)
-            (same_room st st' (suc (count st)) g.counted);
+            (same_most g.counted)
+            (same_room g.counted);
       }
 
   -- ---- a file
@@ -223,7 +223,7 @@ module _ (st st' : Store) (a b : List Row) (row : Row) (h : ℕ) (c : Bytes) (t 
       go (yes d) =
           let w = file-found st' (length st'.heads) 0 s f (ap (file_of (state st').files) (sym (renew i d)) ∙ k) in
           ap (λ (r : Bool). or_else r made (file_of was.files i)) (eq-eqb fresh i (sym d))
-          ∙ ap some (rw (← new-meta st st' a b row h c t l g, ← new-bytes st st' a b row h c t l g) (sym w.file))
+          ∙ ap some (rw (← new-meta l g, ← new-bytes l g) (sym w.file))
       go (no d) =
           ap (λ (r : Bool). or_else r made (file_of was.files i)) (ne_eqb fresh i (λ w. d (sym w)))
           ∙ old-file i f (not_slot i (lived i d y)) (ap (file_of (state st').files) (sym (restay i d)) ∙ k)
@@ -250,10 +250,10 @@ module _ (st st' : Store) (a b : List Row) (row : Row) (h : ℕ) (c : Bytes) (t 
               opens = λ n. same_open n ∙ open_stays n (open_of was.opens n) refl;
               files = file-kept e;
               one = one_number;
-              current = same_here st st' (suc (count st)) g.counted;
-              umask = same_mask st st' (suc (count st)) g.counted;
+              current = same_here g.counted;
+              umask = same_mask g.counted;
               paths = once (file fresh);
             })
-            (same_most st st' (suc (count st)) g.counted)
-            (same_room st st' (suc (count st)) g.counted);
+            (same_most g.counted)
+            (same_room g.counted);
       }

@@ -253,10 +253,10 @@ module _ {st : Store} {k depth : ℕ} {x : Name} {made : Made} (l : Lawful st) (
           grown-at = subst (λ (d : ℕ). Grown st st' a b (record { depth = d; name = x; slot = s }) h c new.time) v.deep grown
 
           abbrev tree : (d : ℕ → Node) → tree_from d [] (a ++ (new_row q x s ∷ b)) ≡ tree_from d [] a ++ ((to, d s) ∷ tree_from d (path_after [] a) b)
-          tree = gap-tree st st' a b q x s h c new.time l grown-at v.gap
+          tree = gap-tree l grown-at v.gap
 
           rules : T (rows_ok (kind_at st') (length st.heads) (a ++ (new_row q x s ∷ b)))
-          rules = gap-rows st st' a b q x s h c new.time l grown-at v.gap not-empty v.name
+          rules = gap-rows l grown-at v.gap not-empty v.name
 
           inserted : Spells st' (edited (insertion made new to) (state st))
           inserted = go made refl
@@ -270,15 +270,15 @@ module _ {st : Store} {k depth : ℕ} {x : Name} {made : Made} (l : Lawful st) (
               go : (y : Made) → made ≡ y → Spells st' (edited (insertion y new to) (state st))
               go Directory e =
                   subst (λ (m : ℕ). Spells st' (edited (make to (new_meta m new.time)) (state st))) mode
-                  (grown-dir st st' a b (new_row q x s) h c new.time l grown-at to tree rules slot_ok_lem v.missing (kind e))
+                  (grown-dir l grown-at to tree rules slot_ok_lem v.missing (kind e))
               go (File d) e =
                   subst (λ (m : ℕ). Spells st' (edited (create to (record { meta = new_meta m new.time; bytes = d.now })) (state st))) mode
                   (subst (λ (b : Bytes). Spells st' (edited (create to (record { meta = new_meta (mode_of h) new.time; bytes = b })) (state st))) (ap bytes_made e)
-                  (grown-file st st' a b (new_row q x s) h c new.time l grown-at to tree rules slot_ok_lem v.missing (kind e)))
+                  (grown-file l grown-at to tree rules slot_ok_lem v.missing (kind e)))
               go (Link d) e =
                   subst (λ (m : ℕ). Spells st' (edited (symlink to (new_meta m new.time) d.now) (state st))) mode
                   (subst (λ (b : Bytes). Spells st' (edited (symlink to (new_meta (mode_of h) new.time) b) (state st))) (ap bytes_made e)
-                  (grown-link st st' a b (new_row q x s) h c new.time l grown-at to tree rules slot_ok_lem v.missing (kind e)))
+                  (grown-link l grown-at to tree rules slot_ok_lem v.missing (kind e)))
 
           pub inserted-at : InsertedAt st st' k q x made new
           inserted-at = record { spells = inserted; slot = s; rows = grown-at.new }

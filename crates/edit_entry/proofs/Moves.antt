@@ -8,7 +8,6 @@ use native.Mathlib.Numerals.{add-one}
 use native.Mathlib.Decide.{ℕ_discrete}
 use native.Mathlib.Omega.{arith}
 use lib.Dec.{T, eqb}
-use lib.IntN.{ℤ}
 use lib.ListN.{length, length-map, length-append, length-take, length-drop, take, drop, get_or}
 use lib.Seq.{length-take-le, take-append_seam, drop-append_seam, drop-append-add, drop-cons, get_or-take}
 use Rattle.text.specs.Utf8.{Bytes}
@@ -136,10 +135,7 @@ below-lifts u d n (r ∷ rs) h k a b = ((omega (arith, h.0), omega (arith, k.0))
 
 -- ---- what the steps ask
 
-module _ (ws rs hs : List ℕ) (ts : List ℤ) (ps bs : Bytes) (i e p depth : ℕ) (y : Name) (l : Lawful (lent ws rs hs ts ps bs)) (m : Movable (lent ws rs hs ts ps bs) i e p depth y) where
-  abbrev st : Store
-  st = lent ws rs hs ts ps bs
-
+module _ {st : Store} {i e p depth : ℕ} {y : Name} (l : Lawful st) (m : Movable st i e p depth y) where
   abbrev n : ℕ
   n = count st
 
@@ -159,29 +155,29 @@ module _ (ws rs hs : List ℕ) (ts : List ℤ) (ps bs : Bytes) (i e p depth : �
   many : n ≡ i + suc (length m.x + length m.b)
   many =
       sym (live-length st l)
-      ∙ (sym (length-rows (live st) bs) ∙ (ap length all_rows ∙ omega (arith, length-append m.a (m.row ∷ (m.x ++ m.b)), length-append m.x m.b, m.from)))
+      ∙ (sym (length-rows (live st) st.bytes) ∙ (ap length all_rows ∙ omega (arith, length-append m.a (m.row ∷ (m.x ++ m.b)), length-append m.x m.b, m.from)))
 
   within : e ≤ n
   within = omega (arith, many, m.to)
 
-  pub low-index : (i < n) × (n ≤ length rs) × (n ≤ 4096)
+  pub low-index : (i < n) × (n ≤ length st.records) × (n ≤ 4096)
   low-index = (omega (arith, many), omega (arith, l.exact.records, l.counted), omega (arith, l.counted, l.entry_limit.1))
 
   -- the entry's word
-  word_is : (depth_of (get_or rs i 0) ≡ m.row.depth) × (slot_of (get_or rs i 0) ≡ m.row.slot) × (nlen_of (get_or rs i 0) ≡ length m.row.name)
+  word_is : (depth_of (get_or st.records i 0) ≡ m.row.depth) × (slot_of (get_or st.records i 0) ≡ m.row.slot) × (nlen_of (get_or st.records i 0) ≡ length m.row.name)
   word_is =
       let k = length A in
-      let w = word_at (live st) bs A m.row (m.x ++ m.b) all_rows in
-      let g : get_or (live st) k 0 ≡ get_or rs i 0 = ap (λ (j : ℕ). get_or (live st) j 0) A-long ∙ get_or-take n rs i 0 low-index.0 in
+      let w = word_at (live st) st.bytes A m.row (m.x ++ m.b) all_rows in
+      let g : get_or (live st) k 0 ≡ get_or st.records i 0 = ap (λ (j : ℕ). get_or (live st) j 0) A-long ∙ get_or-take n st.records i 0 low-index.0 in
       let t = total-step (live st) 0 k (omega arith) (omega (arith, live-length st l, low-index.0, A-long)) in
       let u = total-take (live st) (suc k) in
-      let r = length-drop (name_total (take k (live st))) bs in (
+      let r = length-drop (name_total (take k (live st))) st.bytes in (
         ap depth_of (sym g) ∙ w.0,
         ap slot_of (sym g) ∙ w.1,
-        ap nlen_of (sym g) ∙ (sym (length-take-le (nlen_of (get_or (live st) k 0)) (drop (name_total (take k (live st))) bs) (omega (arith, t, u, r, l.space, l.exact.bytes))) ∙ ap length w.2),
+        ap nlen_of (sym g) ∙ (sym (length-take-le (nlen_of (get_or (live st) k 0)) (drop (name_total (take k (live st))) st.bytes) (omega (arith, t, u, r, l.space, l.exact.bytes))) ∙ ap length w.2),
       )
 
-  pub may-rename : (i < n) × (n ≤ length rs) × (n ≤ 4096) × (length y < 256) × (slot_of (get_or rs i 0) < 65536) × (name_total (take n rs) ≤ length bs) × (name_total (take n rs) + length y ≤ length bs + nlen_of (get_or rs i 0))
+  pub may-rename : (i < n) × (n ≤ length st.records) × (n ≤ 4096) × (length y < 256) × (slot_of (get_or st.records i 0) < 65536) × (name_total (take n st.records) ≤ length st.bytes) × (name_total (take n st.records) + length y ≤ length st.bytes + nlen_of (get_or st.records i 0))
   may-rename = (
     low-index.0,
     low-index.1,
@@ -192,20 +188,20 @@ module _ (ws rs hs : List ℕ) (ts : List ℤ) (ps bs : Bytes) (i e p depth : �
     omega (arith, m.fits, l.exact.bytes, word_is.2),
   )
     where
-      slot-low : m.row.slot < length hs
-      slot-low = go m.a (all_slots (kind_at st) (length hs) (m.root ∷ (m.a ++ (m.row ∷ (m.x ++ m.b)))) (subst (λ (r : List Row). T (rows_ok (kind_at st) (length hs) r)) m.rows l.entries)).1
+      slot-low : m.row.slot < length st.heads
+      slot-low = go m.a (all_slots (kind_at st) (length st.heads) (m.root ∷ (m.a ++ (m.row ∷ (m.x ++ m.b)))) (subst (λ (r : List Row). T (rows_ok (kind_at st) (length st.heads) r)) m.rows l.entries)).1
         where
-          go : (c : List Row) → SlotsIn (length hs) (c ++ (m.row ∷ (m.x ++ m.b))) → m.row.slot < length hs
+          go : (c : List Row) → SlotsIn (length st.heads) (c ++ (m.row ∷ (m.x ++ m.b))) → m.row.slot < length st.heads
           go [] h = h.0
           go (r ∷ c) h = go c h.1
 
   -- ---- after the renaming
 
-  module _ (rs₁ : List ℕ) (bs₁ : Bytes) (o : Renamed rs bs rs₁ bs₁ n i y) where
+  module _ {rs₁ : List ℕ} {bs₁ : Bytes} (o : Renamed st.records st.bytes rs₁ bs₁ n i y) where
     rows₁ : rows (take n rs₁) bs₁ ≡ A ++ ((row₂ ∷ m.x) ++ m.b)
     rows₁ =
         o.all
-        ∙ (ap (λ (r : List Row). take i r ++ (record { depth = depth_of (get_or rs i 0); name = y; slot = slot_of (get_or rs i 0) } ∷ drop (suc i) r)) all_rows
+        ∙ (ap (λ (r : List Row). take i r ++ (record { depth = depth_of (get_or st.records i 0); name = y; slot = slot_of (get_or st.records i 0) } ∷ drop (suc i) r)) all_rows
         ∙ (rw (word_is.0, word_is.1) (ap (λ (k : ℕ). take k full ++ (row₂ ∷ drop (suc k) full)) (sym A-long) ∙ (ap (λ (r : List Row). r ++ (row₂ ∷ drop (suc (length A)) full)) (take-append_seam A (m.row ∷ (m.x ++ m.b))) ∙ ap (λ (r : List Row). A ++ (row₂ ∷ r)) behind))))
       where
         full : List Row
@@ -217,17 +213,17 @@ module _ (ws rs hs : List ℕ) (ts : List ℤ) (ps bs : Bytes) (i e p depth : �
     -- the depths allow the move
     depths : Low n (A ++ (m.row ∷ (m.x ++ m.b)))
     depths =
-        let t = subst (λ (r : List Row). T (rows_ok (kind_at st) (length hs) r)) m.rows l.entries in
-        let w = walk-low (kind_at st) (length hs) [] true (m.a ++ (m.row ∷ (m.x ++ m.b))) (rows-walk t) in (
-          omega (arith, (root_is (kind_at st) (length hs) m.root (rows-root t)).0),
+        let t = subst (λ (r : List Row). T (rows_ok (kind_at st) (length st.heads) r)) m.rows l.entries in
+        let w = walk-low (kind_at st) (length st.heads) [] true (m.a ++ (m.row ∷ (m.x ++ m.b))) (rows-walk t) in (
+          omega (arith, (root_is (kind_at st) (length st.heads) m.root (rows-root t)).0),
           low_more (0 + length (m.a ++ (m.row ∷ (m.x ++ m.b)))) n (m.a ++ (m.row ∷ (m.x ++ m.b))) (omega (arith, length-append m.a (m.row ∷ (m.x ++ m.b)), length-append m.x m.b, many, m.from)) w,
         )
       where
-        rows-walk : T (rows_ok (kind_at st) (length hs) (m.root ∷ (m.a ++ (m.row ∷ (m.x ++ m.b))))) → T (walk_ok (kind_at st) (length hs) [] true (m.a ++ (m.row ∷ (m.x ++ m.b))))
-        rows-walk t = rest_ok (kind_at st) (length hs) m.root (m.a ++ (m.row ∷ (m.x ++ m.b))) t
+        rows-walk : T (rows_ok (kind_at st) (length st.heads) (m.root ∷ (m.a ++ (m.row ∷ (m.x ++ m.b))))) → T (walk_ok (kind_at st) (length st.heads) [] true (m.a ++ (m.row ∷ (m.x ++ m.b))))
+        rows-walk t = rest_ok (kind_at st) (length st.heads) m.root (m.a ++ (m.row ∷ (m.x ++ m.b))) t
 
-        rows-root : T (rows_ok (kind_at st) (length hs) (m.root ∷ (m.a ++ (m.row ∷ (m.x ++ m.b))))) → T (root_ok (kind_at st) (length hs) m.root)
-        rows-root t = root_ok_lem (kind_at st) (length hs) m.root (m.a ++ (m.row ∷ (m.x ++ m.b))) t
+        rows-root : T (rows_ok (kind_at st) (length st.heads) (m.root ∷ (m.a ++ (m.row ∷ (m.x ++ m.b))))) → T (root_ok (kind_at st) (length st.heads) m.root)
+        rows-root t = root_ok_lem (kind_at st) (length st.heads) m.root (m.a ++ (m.row ∷ (m.x ++ m.b))) t
 
     depth_small : depth ≤ 4097
     depth_small =
@@ -271,7 +267,7 @@ module _ (ws rs hs : List ℕ) (ts : List ℤ) (ps bs : Bytes) (i e p depth : �
 
     -- ---- after the move
 
-    module _ (rs' : List ℕ) (bs' : Bytes) (v : Moved rs₁ bs₁ rs' bs' n i e p depth m.row.depth) where
+    module _ {rs' : List ℕ} {bs' : Bytes} (v : Moved rs₁ bs₁ rs' bs' n i e p depth m.row.depth) where
       -- the entry at its new depth, with those below it
       abbrev X : List Row
       X = new_row m.q y m.row.slot ∷ deepen m.row.depth (length (m.q ++ (y ∷ []))) m.x
@@ -341,7 +337,7 @@ module _ (ws rs hs : List ℕ) (ts : List ℤ) (ps bs : Bytes) (i e p depth : �
           go (back c d f g h k) = ap (λ (r : List Row). A ++ r) f ∙ (sym (append_assoc A c d) ∙ rw (h, k) refl)
 
       abbrev st' : Store
-      st' = lent ws rs' hs ts ps bs'
+      st' = lent st.words rs' st.heads st.times st.paths bs'
 
       carried : Carried st st' m.root m.a m.row m.x m.b m.a₂ m.b₂ m.q y
       carried =
@@ -351,8 +347,8 @@ module _ (ws rs hs : List ℕ) (ts : List ℤ) (ps bs : Bytes) (i e p depth : �
             times = refl;
             paths = refl;
             texts =
-                contents-kept hs bs₁ bs' (name_total (take n rs₁)) (omega (arith, o.sum, o.byte_count, m.fits, l.exact.bytes, word_is.2)) v.byte_count v.rest
-                ∙ o.texts hs (omega (arith, l.space, l.exact.bytes)) (omega (arith, m.fits, l.exact.bytes, word_is.2));
+                contents-kept st.heads bs₁ bs' (name_total (take n rs₁)) (omega (arith, o.sum, o.byte_count, m.fits, l.exact.bytes, word_is.2)) v.byte_count v.rest
+                ∙ o.texts st.heads (omega (arith, l.space, l.exact.bytes)) (omega (arith, m.fits, l.exact.bytes, word_is.2));
             records = v.record_count ∙ o.record_count;
             bytes = v.byte_count ∙ o.byte_count;
             old = m.rows;
@@ -366,10 +362,10 @@ module _ (ws rs hs : List ℕ) (ts : List ℤ) (ps bs : Bytes) (i e p depth : �
           carried-spells st st' m.root m.a m.row m.x m.b m.a₂ m.b₂ m.q y l carried m.deeper m.behind_it m.gap m.name m.not_first m.clear
 
     -- the depth as the code reads it
-    pub may-move-by : (d : ℕ) → d ≡ depth_of (get_or rs i 0)
+    pub may-move-by : {d : ℕ} → d ≡ depth_of (get_or st.records i 0)
         → (i ≤ e) × (e ≤ n) × (p ≤ n) × (i < p → e ≤ p) × (n ≤ length rs₁) × (n ≤ 4096) × (name_total (take n rs₁) ≤ length bs₁) × (depth ≤ 65536) × ((j : ℕ) → i ≤ j → j < e → Liftable (get_or rs₁ j 0) depth d)
-    may-move-by d f = rw (f ∙ word_is.0) may-move
+    may-move-by f = rw (f ∙ word_is.0) may-move
 
-    pub moves-by : (d : ℕ) → d ≡ depth_of (get_or rs i 0) → (rs' : List ℕ) (bs' : Bytes) → Moved rs₁ bs₁ rs' bs' n i e p depth d
-        → Spells (lent ws rs' hs ts ps bs') (moved (path_of (path_after [] m.a) m.row) (m.q ++ (y ∷ [])) (state st))
-    moves-by d f rs' bs' v = moves rs' bs' (subst (λ (k : ℕ). Moved rs₁ bs₁ rs' bs' n i e p depth k) (f ∙ word_is.0) v)
+    pub moves-by : {d : ℕ} → d ≡ depth_of (get_or st.records i 0) → {rs' : List ℕ} {bs' : Bytes} → Moved rs₁ bs₁ rs' bs' n i e p depth d
+        → Spells (lent st.words rs' st.heads st.times st.paths bs') (moved (path_of (path_after [] m.a) m.row) (m.q ++ (y ∷ [])) (state st))
+    moves-by f {rs'} {bs'} v = moves (subst (λ (k : ℕ). Moved rs₁ bs₁ rs' bs' n i e p depth k) (f ∙ word_is.0) v)

@@ -5,7 +5,7 @@ use mathlib.Core.Bool.{false}
 use mathlib.Core.List.{List, [], ◌∷◌, ◌++◌}
 use mathlib.Core.Option.{some}
 use mathlib.Core.Path.{◌≡◌, refl, sym, ap, ◌∙◌}
-use Prim.Native.Nat.{ℕ, suc}
+use Prim.Native.Nat.{ℕ}
 use native.Mathlib.Omega.{arith}
 use lib.Dec.{T}
 use lib.ListN.{length}
@@ -17,7 +17,7 @@ use Rattle.model.specs.Rules.{name_ok}
 use Rattle.model.proofs.Entries.{apart-give, apart_under, apart-cut, apart-put}
 use Rattle.layout.specs.Fields.{kind_of, mode_of}
 use Rattle.layout.specs.Rows.{Row, path_of, tree_from}
-use Rattle.layout.specs.Store.{Store, count, kind_at, node_at, state}
+use Rattle.layout.specs.Store.{Store, kind_at, node_at, state}
 use Rattle.layout.specs.Lawful.{rows_ok, slot_by, Lawful}
 use Rattle.layout.specs.Alike.{Spells}
 use Rattle.layout.specs.Parts.{path_after, Deeper, NotDeeper}
@@ -47,20 +47,20 @@ module _ (st st' : Store) (root : Row) (a : List Row) (row : Row) (x b : List Ro
   from = path_of (path_after [] a) row
 
   rows : T (rows_ok (kind_at st') n old)
-  rows = rows_still st st' old (lowered root a row x b s y) s (length y) h [] t l g
+  rows = rows_still l g
 
   new-kind : kind_at st' s ≡ 1
-  new-kind = ap kind_of (new-head st st' old (lowered root a row x b s y) s (length y) h [] t l g) ∙ is_dir
+  new-kind = ap kind_of (new-head l g) ∙ is_dir
 
   after : Lawful st'
-  after = added-lawful st st' old (lowered root a row x b s y) s (length y) h [] t l g (rows-lowered (kind_at st') n root a row x b rows dx nb s new-kind y g.low m) o
+  after = added-lawful l g (rows-lowered (kind_at st') n root a row x b rows dx nb s new-kind y g.low m) o
 
   same_tree : tree_from (node_at st') [] old ≡ was.tree
   same_tree =
-      tree-slots (node_at st') (node_at st) [] old (same_node st st' old (lowered root a row x b s y) s (length y) h [] t l g) ∙ ap (tree_from (node_at st) []) (sym g.old)
+      tree-slots (node_at st') (node_at st) [] old (same_node l g) ∙ ap (tree_from (node_at st) []) (sym g.old)
 
   new-node : node_at st' s ≡ dir (new_meta (mode_of h) t)
-  new-node = dir_at st' s new-kind ∙ ap dir (new-meta st st' old (lowered root a row x b s y) s (length y) h [] t l g)
+  new-node = dir_at st' s new-kind ∙ ap dir (new-meta l g)
 
   abbrev to : Path
   to = from ++ (y ∷ [])
@@ -75,8 +75,8 @@ module _ (st st' : Store) (root : Row) (a : List Row) (row : Row) (x b : List Ro
   same-file i f k =
       let y₀ = file-found st' (length st'.heads) 0 i f k in
       let e : i ≡ s → ⊥ = λ d. let z : kind_at st' i ≡ 1 = ap (kind_at st') d ∙ new-kind in omega (arith, z, y₀.kind) in
-      let w : file_at st' i ≡ file_at st i = rw (other_meta st st' old (lowered root a row x b s y) s (length y) h [] t l g i e, other_bytes st st' old (lowered root a row x b s y) s (length y) h [] t l g i e) refl in
-      file_there st n 0 i (omega arith) (omega (arith, g.counted.slots)) (sym (ap kind_of (other_head st st' old (lowered root a row x b s y) s (length y) h [] t l g i e)) ∙ y₀.kind)
+      let w : file_at st' i ≡ file_at st i = rw (other_meta l g i e, other_bytes l g i e) refl in
+      file_there st n 0 i (omega arith) (omega (arith, g.counted.slots)) (sym (ap kind_of (other_head l g i e)) ∙ y₀.kind)
       ∙ ap some (sym w ∙ sym y₀.file)
 
   pub nested-spells : Spells st' (nested from y (new_meta (mode_of h) t) was)
@@ -87,12 +87,12 @@ module _ (st st' : Store) (root : Row) (a : List Row) (row : Row) (x b : List Ro
         alike =
             same_alike (state st') was (apply (give to) (apply (make from (new_meta (mode_of h) t)) (apply (take from) (world_of was)))) (lawful-shape st' after)
             look_is
-            (λ i. ap (λ (q : List Open). open_of q i) (same_opens st st' (suc (count st)) g.counted))
+            (λ i. ap (λ (q : List Open). open_of q i) (same_opens g.counted))
             (λ i f _ k. same-file i f k)
-            (same_here st st' (suc (count st)) g.counted)
-            (same_mask st st' (suc (count st)) g.counted)
+            (same_here g.counted)
+            (same_mask g.counted)
             (apart-give to (under from was.tree) (put from (dir (new_meta (mode_of h) t)) (cut from was.tree)) (apart_under from was.tree (lawful-shape st l).paths)
             (apart-put from (dir (new_meta (mode_of h) t)) (cut from was.tree) (apart-cut from was.tree (lawful-shape st l).paths)))
-            (same_most st st' (suc (count st)) g.counted)
-            (same_room st st' (suc (count st)) g.counted);
+            (same_most g.counted)
+            (same_room g.counted);
       }

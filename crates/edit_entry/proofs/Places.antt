@@ -19,13 +19,13 @@ use Rattle.layout.proofs.Edited.Inserting.{tree-new, rows_new}
 use Rattle.edit_entry.specs.Growth.{new_row, root_row, Grown}
 use Rattle.edit_entry.proofs.Growing.{rows_still, dir_still}
 
-module _ (st st' : Store) (a b : List Row) (q : Path) (x : Name) (s h : ℕ) (c : Bytes) (t : Time) (l : Lawful st) (g : Grown st st' a b (new_row q x s) h c t)
+module _ {st st' : Store} {a b : List Row} {q : Path} {x : Name} {s h : ℕ} {c : Bytes} {t : Time} (l : Lawful st) (g : Grown st st' a b (new_row q x s) h c t)
     (p : Between (kind_at st) a b q x) where
   new-gap : Between (kind_at st') a b q x
   new-gap =
       record {
         within = p.within;
-        follows = subst (λ (d : Bool). T (follows (path_after [] a) d (suc (length q)) x)) (dir_still st st' a b (new_row q x s) h c t l g) p.follows;
+        follows = subst (λ (d : Bool). T (follows (path_after [] a) d (suc (length q)) x)) (dir_still l g) p.follows;
         behind = p.behind;
       }
 
@@ -33,7 +33,7 @@ module _ (st st' : Store) (a b : List Row) (q : Path) (x : Name) (s h : ℕ) (c 
   gap-tree f = tree-new (kind_at st) a b q x p f s
 
   pub gap-rows : (a ≡ [] → ⊥) → T (name_ok x) → T (rows_ok (kind_at st') (length st.heads) (a ++ (new_row q x s ∷ b)))
-  gap-rows z m = rows_new (kind_at st') a b q x new-gap (length st.heads) s z g.low m (rows_still st st' a b (new_row q x s) h c t l g)
+  gap-rows z m = rows_new (kind_at st') a b q x new-gap (length st.heads) s z g.low m (rows_still l g)
 
 -- the root of an empty tree
 pub root-tree : (f : ℕ → Node) (s : ℕ) → tree_from f [] (root_row s ∷ []) ≡ ([], f s) ∷ []

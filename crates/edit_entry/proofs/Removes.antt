@@ -8,7 +8,6 @@ use Prim.Native.Nat.{ℕ, zero, suc, ◌+◌, ◌-◌, ◌*◌, ◌≤◌, ◌<�
 use native.Mathlib.Decide.{ℕ_discrete}
 use native.Mathlib.Omega.{arith}
 use lib.Dec.{T, ltb}
-use lib.IntN.{ℤ}
 use lib.ListN.{length, take, drop, get_or, set, length-set, get_or-eq_default}
 use lib.Seq.{length-take-le, length-slice, take-suc, drop-cons, get_or-take, get_or-set_same, get_or-set_other}
 use borrow.Author.Tests.{lt-ltb, le-ltb, ltb-true, ltb-false, eq-eqb, ne_eqb}
@@ -76,15 +75,12 @@ unused : (u : ℕ) (t : Bool) → ltb 0 u || t ≡ false → (u ≡ 0) × (t ≡
 unused zero t e = (refl, e)
 unused (suc u) t e = absurd (false≢true (sym e ∙ ap (λ (y : Bool). y || t) (lt-ltb 0 (suc u) (omega arith))))
 
-module _ (ws rs hs : List ℕ) (ts : List ℤ) (ps bs : Bytes) (i e : ℕ) (l : Lawful (lent ws rs hs ts ps bs)) (block : Block (lent ws rs hs ts ps bs) i e) where
-  abbrev pub st : Store
-  st = lent ws rs hs ts ps bs
-
+module _ {st : Store} {i e : ℕ} (l : Lawful st) (block : Block st i e) where
   abbrev pub all : List Row
   all = rows_of st
 
   pub all_length : length all ≡ count st
-  all_length = length-rows (live st) bs ∙ live-length st l
+  all_length = length-rows (live st) st.bytes ∙ live-length st l
 
   pub part : Parts all i e
   part = parts all i e block.first block.some (omega (arith, all_length, block.last))
@@ -108,7 +104,7 @@ module _ (ws rs hs : List ℕ) (ts : List ℤ) (ps bs : Bytes) (i e : ℕ) (l : 
   left = root ∷ (a ++ b)
 
   abbrev s : ℕ
-  s = slot_of (get_or rs i 0)
+  s = slot_of (get_or st.records i 0)
 
   low : i < count st
   low = omega (arith, block.some, block.last)
@@ -118,10 +114,10 @@ module _ (ws rs hs : List ℕ) (ts : List ℤ) (ps bs : Bytes) (i e : ℕ) (l : 
       thirds all i e (omega (arith, block.some))
       ∙ ((λ j. part.front j ++ (drop i (take e all) ++ drop e all)) ∙ ap (λ (y : List Row). (root ∷ a) ++ (y ++ drop e all)) part.block)
 
-  pub rules : T (rows_ok (kind_at st) (length hs) (root ∷ (a ++ (row ∷ (x ++ b)))))
-  rules = subst (λ (y : List Row). T (rows_ok (kind_at st) (length hs) y)) whole l.entries
+  pub rules : T (rows_ok (kind_at st) (length st.heads) (root ∷ (a ++ (row ∷ (x ++ b)))))
+  rules = subst (λ (y : List Row). T (rows_ok (kind_at st) (length st.heads) y)) whole l.entries
 
-  row-depth : row.depth ≡ depth_of (get_or rs i 0)
+  row-depth : row.depth ≡ depth_of (get_or st.records i 0)
   row-depth = ap (λ (r : Row). r.depth) part.here ∙ entry-depth st l i low root
 
   row-slot : row.slot ≡ s
@@ -140,7 +136,7 @@ module _ (ws rs hs : List ℕ) (ts : List ℤ) (ps bs : Bytes) (i e : ℕ) (l : 
   unfolding path_after
   entry-path =
       ap (path_after []) part.path
-      ∙ (ap (λ (p : Path). path_after p (a ++ (row ∷ []))) (root_of (kind_at st) (length hs) root (a ++ (row ∷ (x ++ b))) rules).path ∙ after_both [] a (row ∷ []))
+      ∙ (ap (λ (p : Path). path_after p (a ++ (row ∷ []))) (root_of (kind_at st) (length st.heads) root (a ++ (row ∷ (x ++ b))) rules).path ∙ after_both [] a (row ∷ []))
 
   -- ---- the slots
 
@@ -153,29 +149,29 @@ module _ (ws rs hs : List ℕ) (ts : List ℤ) (ps bs : Bytes) (i e : ℕ) (l : 
   uses-row = rw (eq-eqb row.slot s row-slot) refl
 
   -- what the file numbers stand on, by the new words
-  module _ (ws' : List ℕ) (g : ws' ≡ set ws 2 (count st - (e - i))) where
+  module _ {ws' : List ℕ} (g : ws' ≡ set st.words 2 (count st - (e - i))) where
     same_holder : (j : ℕ) → get_or ws' (5 + 3 * j) 0 ≡ holder st j
-    same_holder j = ap (λ (y : List ℕ). get_or y (5 + 3 * j) 0) g ∙ get_or-set_other ws 2 (5 + 3 * j) (count st - (e - i)) 0 (λ z. omega arith)
+    same_holder j = ap (λ (y : List ℕ). get_or y (5 + 3 * j) 0) g ∙ get_or-set_other st.words 2 (5 + 3 * j) (count st - (e - i)) 0 (λ z. omega arith)
 
     held : (k : ℕ) → stands_from ws' 32 0 k ≡ held_from st 32 0 k
     held k = stands-held st ws' same_holder 32 0 k
 
     new-count : get_or ws' 2 0 ≡ count st - (e - i)
-    new-count = ap (λ (y : List ℕ). get_or y 2 0) g ∙ get_or-set_same ws 2 (count st - (e - i)) 0 (omega (arith, l.exact.words))
+    new-count = ap (λ (y : List ℕ). get_or y 2 0) g ∙ get_or-set_same st.words 2 (count st - (e - i)) 0 (omega (arith, l.exact.words))
 
     -- ---- all steps
 
-    module _ (rs' : List ℕ) (bs₁ : Bytes) (c : Closed rs bs rs' bs₁ (count st) i e) where
+    module _ {rs' : List ℕ} {bs₁ : Bytes} (c : Closed st.records st.bytes rs' bs₁ (count st) i e) where
       abbrev recs : List ℕ
       recs = take (count st - (e - i)) rs'
 
       left_rows : rows recs bs₁ ≡ left
       left_rows = c.all ∙ ap (λ (y : List Row). y ++ drop e all) part.front
 
-      module _ (hs' : List ℕ) (bs' : Bytes) (keep : ℕ → Bool) (cl : Cleared hs bs₁ hs' bs' keep) (keeps : (k : ℕ) → stays st left k ≡ true → keep k ≡ true)
-          (frees : (k : ℕ) → stays st left k ≡ false → keep k ≡ true → get_or hs k 0 ≡ 0) where
+      module _ {hs' : List ℕ} {bs' : Bytes} {keep : ℕ → Bool} (cl : Cleared st.heads bs₁ hs' bs' keep) (keeps : (k : ℕ) → stays st left k ≡ true → keep k ≡ true)
+          (frees : (k : ℕ) → stays st left k ≡ false → keep k ≡ true → get_or st.heads k 0 ≡ 0) where
         abbrev st' : Store
-        st' = lent ws' rs' hs' ts ps bs'
+        st' = lent ws' rs' hs' st.times st.paths bs'
 
         new-rows : rows_of st' ≡ left
         new-rows =
@@ -189,11 +185,11 @@ module _ (ws rs hs : List ℕ) (ts : List ℤ) (ps bs : Bytes) (i e : ℕ) (l : 
         shrunk : Shrunk st st' (root ∷ a) (row ∷ x) b
         shrunk =
             record {
-              counted = record { words = g ∙ ap (λ (n : ℕ). set ws 2 (count st - n)) (sym long); paths = refl; slots = cl.slots };
+              counted = record { words = g ∙ ap (λ (n : ℕ). set st.words 2 (count st - n)) (sym long); paths = refl; slots = cl.slots };
               old = whole;
               new = new-rows;
               kept_head = λ k h. cl.heads k (keeps k h);
-              kept_bytes = λ k h. cl.texts k (keeps k h) ∙ ap (λ (y : List Bytes). get_or y k []) (c.texts hs (omega (arith, l.space, l.exact.bytes)));
+              kept_bytes = λ k h. cl.texts k (keeps k h) ∙ ap (λ (y : List Bytes). get_or y k []) (c.texts st.heads (omega (arith, l.space, l.exact.bytes)));
               freed = λ k h. freed k h (keep k) refl;
               times = refl;
               records = c.record_count;
@@ -204,8 +200,8 @@ module _ (ws rs hs : List ℕ) (ts : List ℤ) (ps bs : Bytes) (i e : ℕ) (l : 
 
         spelled : Spells st' (edited (remove (path_of (path_after [] a) row)) (state st))
         spelled =
-            shrunk-spells st st' (root ∷ a) (row ∷ x) b l shrunk (path_of (path_after [] a) row) (rows_cut (kind_at st) (length hs) root a row x b rules below behind)
-            (look-cut (kind_at st) (length hs) root a row x b rules below behind (node_at st))
+            shrunk-spells st st' (root ∷ a) (row ∷ x) b l shrunk (path_of (path_after [] a) row) (rows_cut (kind_at st) (length st.heads) root a row x b rules below behind)
+            (look-cut (kind_at st) (length st.heads) root a row x b rules below behind (node_at st))
 
         still : (k : ℕ) → 0 < uses k (rows_of st') → stays st left k ≡ true
         still k h = ap (λ (t : Bool). t || held_from st 32 0 k) (lt-ltb 0 (uses k left) (omega (arith, h, ap (uses k) new-rows)))
@@ -219,9 +215,9 @@ module _ (ws rs hs : List ℕ) (ts : List ℤ) (ps bs : Bytes) (i e : ℕ) (l : 
 
       -- ---- one entry
 
-      pub may-free-one : (t : ℕ) → t ≡ s → (length ws' ≡ 102) × (t < length hs) × (length hs ≤ 4128) × (total hs ≤ length bs₁)
-      may-free-one t h = (
-        ap length g ∙ (length-set ws 2 (count st - (e - i)) ∙ l.exact.words),
+      pub may-free-one : {t : ℕ} → t ≡ s → (length ws' ≡ 102) × (t < length st.heads) × (length st.heads ≤ 4128) × (total st.heads ≤ length bs₁)
+      may-free-one h = (
+        ap length g ∙ (length-set st.words 2 (count st - (e - i)) ∙ l.exact.words),
         omega (arith, h, slot-low st l i low),
         omega (arith, l.exact.heads, l.slotted, l.entry_limit.1),
         omega (arith, l.space, l.exact.bytes, c.byte_count),
@@ -236,7 +232,7 @@ module _ (ws rs hs : List ℕ) (ts : List ℤ) (ps bs : Bytes) (i e : ℕ) (l : 
           ∙ (sym (held s) ∙ sym (keep-here ws' s s refl))
 
       -- a slot that nothing has is free already
-      unused-free : (k : ℕ) → uses k all ≡ 0 → held_from st 32 0 k ≡ false → SlotOf st k → get_or hs k 0 ≡ 0
+      unused-free : (k : ℕ) → uses k all ≡ 0 → held_from st 32 0 k ≡ false → SlotOf st k → get_or st.heads k 0 ≡ 0
       unused-free k u h (free e y v w) = y
       unused-free k u h (directory e y v w) = absurd (omega arith)
       unused-free k u h (named e v) = absurd (omega arith)
@@ -251,22 +247,22 @@ module _ (ws rs hs : List ℕ) (ts : List ℤ) (ps bs : Bytes) (i e : ℕ) (l : 
             let y : x ≡ [] = ap (λ (m : ℕ). drop (suc i) (take m all)) n ∙ none_between all (suc i) in
             rw (ne_eqb row.slot k (λ z. d (sym z ∙ row-slot)), y) refl
 
-        free-before : (k : ℕ) → stays st left k ≡ false → (k ≡ s → ⊥) → (t : Bool) → ltb k (length hs) ≡ t → get_or hs k 0 ≡ 0
+        free-before : (k : ℕ) → stays st left k ≡ false → (k ≡ s → ⊥) → (t : Bool) → ltb k (length st.heads) ≡ t → get_or st.heads k 0 ≡ 0
         free-before k h d true t =
             let z = unused (uses k left) (held_from st 32 0 k) h in
-            unused-free k (omega (arith, uses_all k, uses_other k d, z.0)) z.1 (slot-of st k (l.slots k (ltb-true k (length hs) t)))
-        free-before k h d false t = get_or-eq_default hs 0 {n = k} (ltb-false k (length hs) t)
+            unused-free k (omega (arith, uses_all k, uses_other k d, z.0)) z.1 (slot-of st k (l.slots k (ltb-true k (length st.heads) t)))
+        free-before k h d false t = get_or-eq_default st.heads 0 {n = k} (ltb-false k (length st.heads) t)
 
-        pub removed-one : (t : ℕ) → t ≡ s → (hs' : List ℕ) (bs' : Bytes) → Cleared hs bs₁ hs' bs' (keeps_one ws' t) → Removed st (lent ws' rs' hs' ts ps bs') i e
-        removed-one t u hs' bs' cl = removed-by hs' bs' (keeps_one ws' s) (subst (λ (y : ℕ). Cleared hs bs₁ hs' bs' (keeps_one ws' y)) u cl) (λ k h. kept k h (ℕ_discrete k s)) (λ k h t. gone k h t (ℕ_discrete k s))
+        pub removed-one : {t : ℕ} → t ≡ s → {hs' : List ℕ} {bs' : Bytes} → Cleared st.heads bs₁ hs' bs' (keeps_one ws' t) → Removed st (lent ws' rs' hs' st.times st.paths bs') i e
+        removed-one u {hs'} {bs'} cl = removed-by (subst (λ (y : ℕ). Cleared st.heads bs₁ hs' bs' (keeps_one ws' y)) u cl) (λ k h. kept k h (ℕ_discrete k s)) (λ k h t. gone k h t (ℕ_discrete k s))
           where
             kept : (k : ℕ) → stays st left k ≡ true → Dec (k ≡ s) → keeps_one ws' s k ≡ true
             kept k h (yes z) = ap (keeps_one ws' s) z ∙ (sym stays_here ∙ (ap (stays st left) (sym z) ∙ h))
             kept k h (no z) = keep_other ws' s k z
 
-            gone : (k : ℕ) → stays st left k ≡ false → keeps_one ws' s k ≡ true → Dec (k ≡ s) → get_or hs k 0 ≡ 0
+            gone : (k : ℕ) → stays st left k ≡ false → keeps_one ws' s k ≡ true → Dec (k ≡ s) → get_or st.heads k 0 ≡ 0
             gone k h t (yes z) = absurd (false≢true (sym h ∙ (ap (stays st left) z ∙ (stays_here ∙ (ap (keeps_one ws' s) (sym z) ∙ t)))))
-            gone k h t (no z) = free-before k h z (ltb k (length hs)) refl
+            gone k h t (no z) = free-before k h z (ltb k (length st.heads)) refl
 
       -- ---- more
 
@@ -281,19 +277,19 @@ module _ (ws rs hs : List ℕ) (ts : List ℤ) (ps bs : Bytes) (i e : ℕ) (l : 
       stood_on j h (yes z) = omega (arith, z)
       stood_on j h (no z) = omega (arith, (stood st l j h z).low, l.exact.heads, l.slotted, l.entry_limit.1)
 
-      left-slots : SlotsIn (length hs) (rows recs bs₁)
-      left-slots = subst (SlotsIn (length hs)) (sym left_rows) (all_slots (kind_at st) (length hs) left (rows_cut (kind_at st) (length hs) root a row x b rules below behind))
+      left-slots : SlotsIn (length st.heads) (rows recs bs₁)
+      left-slots = subst (SlotsIn (length st.heads)) (sym left_rows) (all_slots (kind_at st) (length st.heads) left (rows_cut (kind_at st) (length st.heads) root a row x b rules below behind))
 
-      pub may-free-unused : (101 ≤ length ws') × Standing ws' × (length hs ≤ 4128) × Within (length hs) recs × ((k : ℕ) → k < length hs → uses_in k recs ≤ 1) × (total hs ≤ length bs₁)
+      pub may-free-unused : (101 ≤ length ws') × Standing ws' × (length st.heads ≤ 4128) × Within (length st.heads) recs × ((k : ℕ) → k < length st.heads → uses_in k recs ≤ 1) × (total st.heads ≤ length bs₁)
       may-free-unused = (
-        omega (arith, (may-free-one s refl).0),
+        omega (arith, (may-free-one {t = s} refl).0),
         (λ j h. subst (λ (y : ℕ). y ≤ 4128) (sym (same_holder j)) (stood_on j h (ℕ_discrete (holder st j) 0))),
-        (may-free-one s refl).2,
-        words_within (length hs) recs bs₁ left-slots,
+        (may-free-one {t = s} refl).2,
+        words_within (length st.heads) recs bs₁ left-slots,
         (λ k h. omega (arith, used-left k, uses_all k, used-once st l k h)),
-        (may-free-one s refl).3,
+        (may-free-one {t = s} refl).3,
       )
 
-      pub removed-more : (hs' : List ℕ) (bs' : Bytes) → Cleared hs bs₁ hs' bs' (keeps_used ws' recs) → Removed st (lent ws' rs' hs' ts ps bs') i e
-      removed-more hs' bs' cl =
-          removed-by hs' bs' (keeps_used ws' recs) cl (λ k h. sym (stays-used k) ∙ h) (λ k h t. absurd (false≢true (sym h ∙ (stays-used k ∙ t))))
+      pub removed-more : {hs' : List ℕ} {bs' : Bytes} → Cleared st.heads bs₁ hs' bs' (keeps_used ws' recs) → Removed st (lent ws' rs' hs' st.times st.paths bs') i e
+      removed-more cl =
+          removed-by cl (λ k h. sym (stays-used k) ∙ h) (λ k h t. absurd (false≢true (sym h ∙ (stays-used k ∙ t))))

@@ -70,5 +70,5 @@ module _ {st : Store} (l : Lawful st) (e : count st ≡ 0) where
     unfolding tree_from
     rooted =
         subst (λ (n : ℕ). Spells st' (edited (make [] (new_meta n new.time)) (state st))) (mode-made Directory new (omega arith))
-        (grown-dir st st' [] [] (root_row s) h [] new.time l made [] (λ f. root-tree f s) (root-rows (kind_at st') (length st.heads) s z.0 (ap kind_of (new-head st st' [] [] (root_row s) h [] new.time l made) ∙ root-kind))
+        (grown-dir l made [] (λ f. root-tree f s) (root-rows (kind_at st') (length st.heads) s z.0 (ap kind_of (new-head l made) ∙ root-kind))
         (slot_ok_lem l fits placed z f o y g) no-entry root-kind)

@@ -87,13 +87,13 @@ module _ (st st' : Store) (a x b : List Row) (l : Lawful st) (g : Shrunk st st' 
   slots-ok : (k : ℕ) → k < length st.heads → (y : Bool) → stays st left k ≡ y → T (slot_ok st' k)
   slots-ok k n true e =
       subst T
-      (sym (slot_same (ap kind_of (g.kept_head k e)) (g.kept_head k e) (ap (uses k) g.new) (same_held st st' c g.counted 32 0 k) (g.kept_bytes k e)))
+      (sym (slot_same (ap kind_of (g.kept_head k e)) (g.kept_head k e) (ap (uses k) g.new) (same_held g.counted 32 0 k) (g.kept_bytes k e)))
       (kept_slot k n (of_true e))
   slots-ok k n false e =
       let h = g.freed k e in
       let u : uses k left ≡ 0 = none_left k e in
       let w : held_from st 32 0 k ≡ false = is_false _ (λ y. false≢true (sym e ∙ is_true _ (or_right (ltb 0 (uses k left)) _ y))) in
-      subst T (sym (slot_same (ap kind_of h) h (ap (uses k) g.new ∙ u) (same_held st st' c g.counted 32 0 k ∙ w) refl)) tt
+      subst T (sym (slot_same (ap kind_of h) h (ap (uses k) g.new ∙ u) (same_held g.counted 32 0 k ∙ w) refl)) tt
 
   -- ---- the entries that are left
 
@@ -109,9 +109,9 @@ module _ (st st' : Store) (a x b : List Row) (l : Lawful st) (g : Shrunk st st' 
   pub shrunk-lawful : T (rows_ok (kind_at st) (length st.heads) left) → Lawful st'
   shrunk-lawful rs =
       let r = g.counted in
-      let most-same = same_most st st' c r in
-      let room_same_lem = same_room st st' c r in
-      let extent-same = same_extent st st' c r in
+      let most-same = same_most r in
+      let room_same_lem = same_room r in
+      let extent-same = same_extent r in
       let old = l.exact in
       record {
         exact =
@@ -125,7 +125,7 @@ module _ (st st' : Store) (a x b : List Row) (l : Lawful st) (g : Shrunk st st' 
             };
         entry_limit = rw most-same l.entry_limit;
         byte_limit = rw room_same_lem l.byte_limit;
-        counted = rw (new-count st st' c r (omega (arith, old.words)), most-same) (omega (arith, l.counted));
+        counted = rw (new-count r (omega (arith, old.words)), most-same) (omega (arith, l.counted));
         slotted = rw (extent-same, most-same) l.slotted;
         space = rw room_same_lem (omega (arith, g.names, g.room, l.space));
         entries =
@@ -133,9 +133,9 @@ module _ (st st' : Store) (a x b : List Row) (l : Lawful st) (g : Shrunk st st' 
             (subst (λ (y : List Row). T (rows_ok (kind_at st') (length st.heads) y)) (sym g.new)
             (subst T (rows-slots (kind_at st) (kind_at st') (length st.heads) left same_kind) rs));
         slots = λ k n. slots-ok k (subst (λ (i : ℕ). k < i) r.slots n) (stays st left k) refl;
-        numbers = λ n k. number_ok_lem st st' c r n (l.numbers n k);
-        here = here-ok st st' c r l.here;
-        umask = rw (same_mask st st' c r) l.umask;
+        numbers = λ n k. number_ok_lem r n (l.numbers n k);
+        here = here-ok r l.here;
+        umask = rw (same_mask r) l.umask;
       }
 
   -- ---- the state
@@ -165,11 +165,11 @@ module _ (st st' : Store) (a x b : List Row) (l : Lawful st) (g : Shrunk st st' 
             ap (λ (y : List Row). look (tree_from (node_at st') [] y) q) g.new
             ∙ (ap (λ (y : Entries). look y q) (tree-slots (node_at st') (node_at st) [] left same_node)
             ∙ (h q ∙ ap (λ (y : List Row). look (cut p (tree_from (node_at st) [] y)) q) (sym g.old))))
-            (λ n. ap (λ (y : List Open). open_of y n) (same_opens st st' c g.counted))
+            (λ n. ap (λ (y : List Open). open_of y n) (same_opens g.counted))
             (λ i f _ e. old-file i f e)
-            (same_here st st' c g.counted)
-            (same_mask st st' c g.counted)
+            (same_here g.counted)
+            (same_mask g.counted)
             (apart-cut p (state st).tree (lawful-shape st l).paths)
-            (same_most st st' c g.counted)
-            (same_room st st' c g.counted);
+            (same_most g.counted)
+            (same_room g.counted);
       }

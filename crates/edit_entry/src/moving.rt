@@ -11,6 +11,7 @@ ghost use Rattle.edit_entry.specs.Renaming.{Renamed};
 use layout::{COUNT_AT, DEPTHS};
 
 // The record is taken out and put back with the other name.
+// kept: the count stands beside the records, since the one that is put back needs the room behind them.
 fn rename_record(records: &mut [u64], bytes: &mut [u8], count: usize, i: usize, name: &[u8])
     requires { (i < count) × (count ≤ length records.old) × (count ≤ most_entries) × (length name.now < name_lengths)
         × (slot_of (get_or records.old i 0) < slot_numbers) × (name_total (take count records.old) ≤ length bytes.old)

@@ -39,6 +39,7 @@ fn free_unused(words: &[u64], recs: &[u64], heads: &mut [u64], bytes: &mut [u8])
 }
 
 // The entry at record i, and what lies below it up to record e.
+// kept: the slices are lent one by one, since a removal touches no times.
 pub fn remove_entry(
     words: &mut [u64],
     records: &mut [u64],

@@ -60,6 +60,7 @@ pub fn open_number(
 }
 
 // Closes the open number n. Its file's slot is freed where no other number and no name is left.
+// kept: the slices are lent one by one: it takes those that it touches, and the records to be read alone.
 pub fn close_number(
     words: &mut [u64],
     records: &[u64],

@@ -1,4 +1,5 @@
 // Set up, and what is read back beside the calls of a job.
+// kept: each exported function has the six slices one by one, as C calls it.
 ghost use Rattle.std.specs.Prelude.{◌≡◌};
 ghost use Rattle.layout.specs.Lent.{lends};
 ghost use Rattle.setup.specs.SetUp.{IsSetUp};

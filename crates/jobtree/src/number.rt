@@ -1,4 +1,5 @@
 // The calls by file number. But for metadata they walk no path, and are lent no working buffers.
+// kept: each exported function has the six slices, an origin and flags one by one and as numbers, as C calls it.
 ghost use Rattle.std.specs.Prelude.{[], ◌/◌, length};
 ghost use Rattle.model.specs.Calls.Calling as op;
 ghost use Rattle.refusal.specs.Numbers.{answered};

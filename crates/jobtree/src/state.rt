@@ -1,4 +1,5 @@
 // The calls that set the umask and the current directory.
+// kept: each exported function has the six slices one by one, as C calls it.
 ghost use Rattle.std.specs.Prelude.{[]};
 ghost use Rattle.model.specs.Calls.Calling as op;
 ghost use Rattle.refusal.specs.Numbers.{answered};
@@ -49,6 +50,7 @@ pub extern "C" fn jobtree_set_umask(
 }
 
 // What the path leads to is the current directory.
+// kept: the slices are lent one by one, since words and paths are written.
 fn set_current_dir(
     words: &mut [u64],
     records: &[u64],

@@ -9,7 +9,7 @@ ghost use Rattle.slots.specs.Uses.{Within, Standing};
 ghost use Rattle.lawful.specs.Parts.{LinksRight, SlotsHeld};
 
 use layout::kind::Kind;
-use layout::{kind_of, len_of, nlen_of};
+use layout::{kind_of, len_of};
 use path::lengths::lengths_ok;
 use text::text_ok;
 
@@ -18,7 +18,7 @@ pub fn names_total(recs: &[u64]) -> usize
     requires { length recs.now ≤ most_entries }
     ensures { (result ≡ name_total recs.now) × (result ≤ most_bytes) }
 {
-    recs.iter().map(|w| nlen_of(*w)).sum()
+    layout::names_of(recs)
 }
 
 // The bytes of the slots.
@@ -26,7 +26,7 @@ pub fn bytes_total(heads: &[u64]) -> usize
     requires { length heads.now ≤ most_slots }
     ensures { (result ≡ total heads.now) × (result ≤ 69256347648) }
 {
-    heads.iter().map(|h| len_of(*h)).sum()
+    slots::total_of(heads)
 }
 
 // Whether the bytes are a link's target.

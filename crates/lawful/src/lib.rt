@@ -14,21 +14,22 @@ pub mod cells;
 pub mod held;
 pub mod sizes;
 
-// Whether slices obey the rules. `recs` has the records of the entries and no more, `heads` the words of the slots so far.
-fn parts_ok(words: &[u64], recs: &[u64], heads: &[u64], paths: &[u8], bytes: &[u8]) -> bool
-    requires { (extent_at ≤ length words.now) × (length recs.now ≤ most_entries) × (length heads.now ≤ most_slots)
-        × (paths_bytes ≤ length paths.now) × (length bytes.now ≤ most_bytes) }
-    ensures { Settles result (Parts words.now recs.now heads.now paths.now bytes.now) }
+// Whether slices obey the rules that are cut: to the records of the entries and no more, and the words of the slots so far.
+fn parts_ok(cut: Slices) -> bool
+    requires { (extent_at ≤ length cut.words.now) × (length cut.records.now ≤ most_entries) × (length cut.heads.now ≤ most_slots)
+        × (paths_bytes ≤ length cut.paths.now) × (length cut.bytes.now ≤ most_bytes) }
+    ensures { let c = cut.entry in Settles result (Parts c.words.now c.records.now c.heads.now c.paths.now c.bytes.now) }
 {
-    let names = held::names_total(recs);
-    let rest = held::bytes_total(heads);
-    if bytes.len() < names + rest
-        || !lawful_entries::entries_ok(recs, heads, bytes, names)
-        || !cells::kept_ok(words, paths, heads.len())
+    let names = held::names_total(cut.records);
+    let rest = held::bytes_total(cut.heads);
+    if cut.bytes.len() < names + rest
+        || !lawful_entries::entries_ok(cut.records, cut.heads, cut.bytes, names)
+        || !cells::kept_ok(cut.words, cut.paths, cut.heads.len())
     {
         return false;
     }
-    held::slots_held(words, recs, heads, bytes, bytes.len() - rest)
+    let from = cut.bytes.len() - rest;
+    held::slots_held(cut.words, cut.records, cut.heads, cut.bytes, from)
 }
 
 // Whether the slices keep the rules; each may be longer than the limits ask. Slots behind those so far are not looked at.
@@ -41,13 +42,14 @@ fn rules_ok(s: Slices) -> bool
     let slots = s.words[EXTENT_AT] as usize;
     let room = s.words[ROOM_AT] as usize;
     let count = s.words[COUNT_AT] as usize;
-    parts_ok(
-        &s.words[..WORD_COUNT],
-        &s.records[..count],
-        &s.heads[..slots],
-        &s.paths[..PATHS_BYTES],
-        &s.bytes[..room],
-    )
+    parts_ok(Slices {
+        words: &s.words[..WORD_COUNT],
+        records: &s.records[..count],
+        heads: &s.heads[..slots],
+        times: s.times,
+        paths: &s.paths[..PATHS_BYTES],
+        bytes: &s.bytes[..room],
+    })
 }
 
 // What words and bytes hold, whatever they hold: it is known of the slices themselves, and not of those in a struct.

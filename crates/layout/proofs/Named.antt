@@ -3,11 +3,13 @@
 -- Assumes nothing.
 use mathlib.Core.List.{List, [], ◌∷◌, ◌++◌}
 use mathlib.Core.Path.{◌≡◌, refl, sym, ap, ◌∙◌}
-use Prim.Native.Nat.{ℕ, zero, suc, ◌+◌, ◌≤◌}
+use Prim.Native.Nat.{ℕ, zero, suc, ◌+◌, ◌*◌, ◌≤◌}
 use native.Mathlib.Nat.{add_assoc, zero-add}
 use native.Mathlib.Omega.{arith}
 use lib.ListN.{length, take, drop, length-drop, take-append-drop}
 use lib.Seq.{length-take-le, drop-drop}
+use Rattle.std.specs.List.{sum_by}
+use Rattle.std.proofs.lemmas.List.Sums.{sum_by-cons, sum_by-le}
 use Rattle.text.specs.Utf8.{Bytes}
 use Rattle.layout.specs.Fields.{depth_of, nlen_of, slot_of}
 use Rattle.layout.specs.Rows.{Row, name_total, rows}
@@ -21,6 +23,15 @@ total-append (w ∷ a) b = ap (λ (n : ℕ). nlen_of w + n) (total-append a b) �
 
 pub total-split : (ws : List ℕ) (k : ℕ) → name_total (take k ws) + name_total (drop k ws) ≡ name_total ws
 total-split ws k = sym (total-append (take k ws) (drop k ws)) ∙ ap name_total (take-append-drop k ws)
+
+-- as the library's sum, and a bound on it
+pub sum-names : (ws : List ℕ) → sum_by nlen_of ws ≡ name_total ws
+unfolding name_total
+sum-names [] = refl
+sum-names (w ∷ ws) = sum_by-cons nlen_of w ws ∙ ap (λ (n : ℕ). nlen_of w + n) (sum-names ws)
+
+pub few_names : (ws : List ℕ) → name_total ws ≤ length ws * 255
+few_names ws = let h = sum_by-le nlen_of 255 ws (λ k d h. omega arith) in omega (arith, sum-names ws)
 
 -- ---- the entries
 

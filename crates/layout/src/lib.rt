@@ -1,8 +1,9 @@
 #![tactic(auto)]
 // The numbers of the layout, as specs/Numbers.antt has them, and the fields of the words of a store.
-ghost use Rattle.std.specs.Prelude.{◌≡◌, ◌<◌};
-ghost use Rattle.layout.specs.Numbers.{depths, name_lengths, slot_numbers, lengths, kinds};
+ghost use Rattle.std.specs.Prelude.{◌≡◌, ◌<◌, ◌≤◌, length};
+ghost use Rattle.layout.specs.Numbers.{most_entries, depths, name_lengths, slot_numbers, lengths, kinds};
 ghost use Rattle.layout.specs.Fields.{depth_of, nlen_of, slot_of, record_word, len_of, kind_of, mode_of, head_word};
+ghost use Rattle.layout.specs.Rows.{name_total};
 
 pub mod kind;
 pub mod slices;
@@ -88,12 +89,21 @@ pub fn record_word(d: usize, n: usize, s: usize) -> u64
     (s as u64 * NAME_LENGTHS + n as u64) * DEPTHS + d as u64
 }
 
+// The bytes of the names of entries.
+pub fn names_of(records: &[u64]) -> usize
+    requires { length records.now ≤ most_entries }
+    ensures { result ≡ name_total records.now }
+{
+    records.iter().map(|w| nlen_of(*w)).sum()
+}
+
 pub fn len_of(h: u64) -> usize
     ensures { result ≡ len_of h }
 {
     (h % LENGTHS) as usize
 }
 
+// kept: a number and not a Kind, since the word of a damaged store may hold any
 pub fn kind_of(h: u64) -> u64
     ensures { result ≡ kind_of h }
 {

@@ -15,20 +15,6 @@ pub links-written : (c k : ℕ) → in_links c ≡ written (plain_reply c) (in_l
 unfolding row_numbers
 links-written c k = refl
 
-pub nothing_written : in_nothing ≡ written (plain_reply 0) in_nothing
-unfolding row_numbers
-nothing_written = refl
-
 pub number-written : (n k : ℕ) → in_number n ≡ written (number_reply n 0) (in_number k)
 unfolding row_numbers
 number-written n k = refl
-
-pub bytes-written : (s out left : Bytes) (n m c k : ℕ) → left ≡ in_front s out → m ≡ length s → in_bytes left m c ≡ written (bytes_reply s c) (in_bytes out n k)
-unfolding row_numbers
-bytes-written s out left n m c k e f = ap (λ (l : Bytes). in_bytes l m c) e ∙ ap (λ (i : ℕ). in_bytes (in_front s out) i c) f
-
--- what is copied over the front stands there
-pub over_front : (s out : Bytes) → paste out 0 s (length s) ≡ in_front s out
-over_front s out =
-    let z : 0 + length s ≡ length s = omega arith in
-    ap (λ (x : Bytes). x ++ drop (0 + length s) out) (take-length s) ∙ ap (λ (k : ℕ). s ++ drop k out) z

@@ -21,6 +21,7 @@ use walk::lookup::{Looked, Walked};
 const NONE: usize = MOST_ENTRIES as usize;
 
 // The entry that the path leads to.
+// kept: the buffer is lent by the caller, so the length of the path in front of it goes beside it.
 pub fn leads(tree: Tree, work: &mut [u8], len: usize) -> Result<There, Refusal>
     requires { Some (with_tree tree) × PathIn work.old len }
     ensures { Of (still (with_tree tree.entry))
@@ -31,6 +32,7 @@ pub fn leads(tree: Tree, work: &mut [u8], len: usize) -> Result<There, Refusal>
 }
 
 // What the path comes to, there or not.
+// kept: the buffer is lent by the caller, so the length of the path in front of it goes beside it.
 pub fn lookup(tree: Tree, work: &mut [u8], len: usize) -> Result<Looked, Refusal>
     requires { Some (with_tree tree) × PathIn work.old len }
     ensures { Of (still (with_tree tree.entry))
@@ -41,6 +43,7 @@ pub fn lookup(tree: Tree, work: &mut [u8], len: usize) -> Result<Looked, Refusal
 }
 
 // The same, with a last link not followed.
+// kept: the buffer is lent by the caller, so the length of the path in front of it goes beside it.
 pub fn no_follow(tree: Tree, work: &mut [u8], len: usize) -> Result<Walked, Refusal>
     requires { Some (with_tree tree) × PathIn work.old len }
     ensures { Of (still (with_tree tree.entry)) (λ st s. Walks st s (world_of s) most_entries (take len work.old) work.new result) }

@@ -11,6 +11,7 @@ use layout::{PATHS_BYTES, WORD_COUNT};
 use refusal::Refusal;
 
 // How a path is taken: made absolute from the current directory, the empty path as that directory itself or as not found.
+// kept: two ways of one kind, of which neither is an error or nothing.
 #[derive(Clone, Copy)]
 pub enum Sort {
     Any,

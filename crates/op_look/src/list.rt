@@ -43,6 +43,7 @@ fn put_records(
 }
 
 // The entries of the directory that the path in work[..len] leads to.
+// kept: the buffer is lent by the caller, so the length of the path in front of it goes beside it.
 pub fn list_at(
     tree: Tree,
     times: &[i64],

@@ -41,6 +41,7 @@ fn show(
 }
 
 // The record of the entry that the path in work[..len] leads to.
+// kept: the buffer is lent by the caller, so the length of the path in front of it goes beside it.
 pub fn metadata_at(
     tree: Tree,
     times: &[i64],
@@ -68,6 +69,7 @@ pub fn metadata_at(
 }
 
 // The same of the entry itself: a last link is not followed.
+// kept: the buffer is lent by the caller, so the length of the path in front of it goes beside it.
 pub fn symlink_metadata_at(
     tree: Tree,
     times: &[i64],

@@ -29,16 +29,6 @@ pub position-told : (s : State) (n : ℕ) (r : Prelude.Option ℕ) → NumberIs 
 position-told s n Prelude.None x = λ o y. clash (says (open? n) s) o x y
 position-told s n (Prelude.Some k) x = λ o y. ap (λ (p : Position). p.pos) (some_inj (sym y ∙ x.1)) ∙ x.2
 
--- ---- the bytes from a position on
-
-module _ (s : Bytes) (pos most : ℕ) where
-  -- the position behind them
-  pub behind-low : pos < 2 ^ 64 → length s < 2 ^ 63 → (r : Bytes) → r ≡ take most (drop pos s) → pos + length r < 2 ^ 64
-  behind-low h k r e = omega (arith, ap length e, length-take most (drop pos s), length-drop pos s)
-
-  pub behind-few : (r : Bytes) → r ≡ take most (drop pos s) → length r ≤ most
-  behind-few r e = omega (arith, ap length e, length-take most (drop pos s))
-
 -- ---- read and seek
 
 module _ (n : ℕ) (w : World) (o : Position) (b : Bytes) (pos : ℕ) (x : answer (open? n) w ≡ some o) (y : answer (held? n) w ≡ some b) (z : o.pos ≡ pos) where

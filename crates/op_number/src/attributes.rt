@@ -10,6 +10,7 @@ ghost use Rattle.op_number.specs.Opened.{SomeOpen, OpenAnswered};
 use refusal::Refusal;
 
 // The number is open no more.
+// kept: the slices are lent one by one, since all but the records are written.
 pub fn close_on(
     words: &mut [u64],
     records: &[u64],
@@ -26,6 +27,7 @@ pub fn close_on(
 }
 
 // Its file is cut to so many bytes, or extended by zeros; 16 where the byte limit would be passed.
+// kept: the slices are lent one by one, since two of them are written.
 pub fn set_length_on(
     words: &[u64],
     records: &[u64],

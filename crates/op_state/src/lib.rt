@@ -28,8 +28,7 @@ pub fn set_umask_to(words: &mut [u64], mask: u32, number: &mut u64) -> Result<()
 }
 
 // Makes the entry that the path in work[..len] leads to the current directory; its kind is not tested.
-// kept: the slices are lent one by one, since words and paths are written; and the buffer is lent by the caller, so that the length of
-// the path in front of it goes beside it.
+// kept: the slices are lent one by one, since words and paths are written; of the lent buffer the path in front goes by its length.
 pub fn set_current_at(
     words: &mut [u64],
     records: &[u64],

@@ -8,7 +8,7 @@ use native.Mathlib.Numerals.{add-one}
 use native.Mathlib.Omega.{arith}
 use lib.Dec.{eqb}
 use lib.ListN.{length, take, drop, get_or, length-take, length-drop, take-append-drop}
-use lib.Seq.{append_snoc, take_all, drop-cons, drop-drop, take-add, take-suc, get_or-take, get_or-drop, length-take-le}
+use lib.Seq.{append_snoc, take_all, drop-drop, take-add, take-suc, get_or-take, get_or-drop, length-take-le}
 use borrow.Author.Tests.{ne_eqb, eqb-false}
 use Rattle.text.specs.Utf8.{Bytes}
 use Rattle.path.specs.Path.{Name, cut, pieces}
@@ -74,12 +74,6 @@ pieces_no_slash (b ∷ s) = go (pieces s) (pieces_no_slash s) (eqb b 47) refl
 
 pub part-empty : (e : ℕ) (s : Bytes) → part e e s ≡ []
 part-empty e s = let z : e - e ≡ 0 = omega arith in rw z
-
-pub part-cons : (a e : ℕ) (s : Bytes) → a < e → e ≤ length s → part a e s ≡ get_or s a 0 ∷ part (suc a) e s
-part-cons a e s h k =
-    let n : e - a ≡ suc (e - suc a) = omega arith in
-    let l : a < length s = omega arith in
-    rw (n, drop-cons s a 0 l)
 
 pub part_length : (a e : ℕ) (s : Bytes) → e ≤ length s → length (part a e s) ≡ e - a
 part_length a e s k = simp (length-take, length-drop) (omega arith)

@@ -76,3 +76,6 @@ up_length strike (b ∷ []) h = absurd (go strike (eqb b 46) h)
     go s false e = cc
 up_length strike (b ∷ c ∷ []) h = refl
 up_length strike (b ∷ c ∷ d ∷ n) h = absurd (cc (kind-long strike (b ∷ c ∷ d ∷ n) (omega arith)))
+
+-- what a piece is, by what it is seen to begin with
+pub ruleset kinds = (kind_none, kind-long, kind_other, kind-dot, kind_two, kind-struck, kind-named)

@@ -119,6 +119,9 @@ end-slash s l q =
           rw p ((read_none strike s 0).same ∙ (pass-vanished strike s (length s + 1) (length s) (omega arith) piece (length s + 1) 0 0 (pass_none strike s (length s + 1) 0) k).same []),
     )
 
+-- the end of a text
+pub ruleset ends = (end_whole, end-slash)
+
 -- a slash in front, or none
 module _ (s : Bytes) (e : ℕ) (end : EndIs s e) (strike : Bool) where
   between : (a : ℕ) → a < e → (0 < a → get_or s (a - 1) 0 ≡ 47) → AllNames (part a e s) → sifted strike 0 s ≡ sift strike (front a s) (mk 0 (pieces (part a e s)))

@@ -151,10 +151,6 @@ module _ (strike : Bool) (s : Bytes) (k : ℕ) where
   unfolding sifted front
   read_none = record { same = rw (add-one, take-length); room = omega arith; few = omega arith }
 
-  pub read_all : (skip : ℕ) (kept : List Name) → Read strike s k 0 skip kept → sifted strike k s ≡ mk skip kept
-  unfolding sift front
-  read_all skip kept r = r.same
-
   module _ (rest skip : ℕ) (kept : List Name) (r : Read strike s k rest skip kept) where
     pub read-next : (a e rest' skip' : ℕ) → NextIs strike s rest skip (Some (a, e)) rest' skip' → Read strike s k rest' skip' (part a e s ∷ kept)
     read-next a e rest' skip' n = record { same = r.same ∙ n.4 kept; room = omega (arith, r.room, n.0, n.1, n.2); few = omega (arith, r.few, n.3) }

@@ -1,16 +1,14 @@
 -- Names stored in a buffer from the right: each goes in front of what is stored, and the rest of the buffer stays.
 -- Assumes nothing.
-use mathlib.Core.Bool.{Bool}
 use mathlib.Core.List.{List, [], ◌∷◌, ◌++◌, append_assoc}
 use mathlib.Core.Path.{◌≡◌, refl, sym, ap, ◌∙◌}
-use Prim.Native.Nat.{ℕ, ◌+◌, ◌-◌, ◌≤◌}
+use Prim.Native.Nat.{ℕ, ◌+◌, ◌≤◌}
 use native.Mathlib.Omega.{arith}
-use lib.ListN.{length, take, drop, take-append-drop}
+use lib.ListN.{length, take, drop}
 use lib.Seq.{take_at, take-take, drop_at, length-take-le}
 use Rattle.text.specs.Utf8.{Bytes}
 use Rattle.path.specs.Path.{Name, body}
-use Rattle.path.specs.Backward.{sifted}
-use Rattle.path.proofs.Reading.{Read, read_all, body-cons-length}
+use Rattle.path.proofs.Reading.{body-cons-length}
 
 -- what is stored so far: the names `kept` from `at` to `end`
 pub record Stored (before out : Bytes) (at end : ℕ) (kept : List Name) : Type 0 where
@@ -38,11 +36,3 @@ module _ (before out : Bytes) (at end : ℕ) (kept : List Name) (w : Stored befo
             ∙ ap (λ (x : ℕ). (47 ∷ n) ++ drop x out) e ∙ ap (λ (x : Bytes). (47 ∷ n) ++ x) w.back
             ∙ sym (append_assoc (47 ∷ n) (body kept) (drop end before));
       }
-
-  -- all names
-  pub stored_all : (strike : Bool) (s : Bytes) (k skip : ℕ) → Read strike s k 0 skip kept
-      → out ≡ take (end - length (body (sifted strike k s).kept)) before ++ (body (sifted strike k s).kept ++ drop end before)
-  stored_all strike s k skip r =
-      let p : end - length (body kept) ≡ at = omega (arith, w.width) in
-      rw (read_all strike s k skip kept r, p)
-      (sym (take-append-drop at out) ∙ ap (λ (x : Bytes). x ++ drop at out) w.front ∙ ap (λ (x : Bytes). take at before ++ x) w.back)

@@ -32,6 +32,9 @@ unfolding is_absolute
 absolute-other [] h = refl
 absolute-other (b ∷ s) h = sym (ne_eqb b 47 h)
 
+-- whether a text is absolute
+pub ruleset absolutes = (absolute-empty, absolute-slash, absolute-other)
+
 -- ---- lengths
 
 -- names whose text is short are short

@@ -12,6 +12,7 @@ pub enum Piece {
 }
 
 // `strike`: whether `..` drops a name or is one.
+#[tactic(auto, using(crate::proofs::Dots::kinds))]
 pub fn kind_of(n: &[u8], strike: bool) -> Piece
     ensures { result ≡ kind_of strike n.now }
 {

@@ -22,6 +22,7 @@ pub fn last_place(path: &[u8], cwd: &[u8]) -> Option<Place>
 }
 
 // A part of the path or of the current directory, whichever holds the name; empty for the root, which has none.
+#[tactic(auto, using(path::proofs::Lasts::place_none))]
 pub fn last_name<'a>(path: &'a [u8], cwd: &'a [u8]) -> &'a [u8]
     ensures { result.now ≡ last_name (absolute (normal cwd.now) path.now) }
 {

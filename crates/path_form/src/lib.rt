@@ -6,30 +6,48 @@ ghost use Rattle.path.specs.Backward.{sifted};
 ghost use Rattle.path.specs.Path.{names, norm, normal, absolute, is_absolute, body};
 
 use path::answer::TooLong;
+use path::bytes::put_name;
 use path::lengths::LONGEST_PATH;
 use path_scan::kept::Kept;
+use path_scan::plain::find_plain;
 
 pub mod last;
 pub mod link;
 
 // Whether the text begins with a slash.
+#[tactic(auto, using(path::proofs::Texts::absolutes))]
 pub fn is_absolute(s: &[u8]) -> bool
     ensures { result ≡ is_absolute s.now }
 {
     matches!(s, [b'/', ..])
 }
 
-// What the path keeps. It is measured first, since a refusal writes nothing. `strike`: whether `..` drops a name.
-fn form(out: &mut [u8], path: &[u8], strike: bool) -> Result<usize, TooLong>
+// What a path that is not plain keeps. It is measured first, since a refusal writes nothing. `strike`: whether `..` drops a name.
+fn form_mixed(out: &mut [u8], path: &[u8], strike: bool) -> Result<usize, TooLong>
     requires { 1024 ≤ length out.old }
     ensures { Forms (body (sifted strike 0 path.now).kept) out.old out.new result }
 {
-    let kept = Kept::measure(path, strike, 0);
+    let kept = Kept::read_back(path, strike, 0);
     if LONGEST_PATH < kept.len {
         return Err(TooLong);
     }
     kept.put(out, kept.len);
     Ok(kept.len)
+}
+
+// What the path keeps. A plain one, as most are, is copied at once.
+fn form(out: &mut [u8], path: &[u8], strike: bool) -> Result<usize, TooLong>
+    requires { 1024 ≤ length out.old }
+    ensures { Forms (body (sifted strike 0 path.now).kept) out.old out.new result }
+{
+    if let Some((start, end)) = find_plain(path) {
+        if LONGEST_PATH <= end - start {
+            return Err(TooLong);
+        }
+        put_name(out, 0, &path[start..end]);
+        return Ok(end - start + 1);
+    }
+    form_mixed(out, path, strike)
 }
 
 // The path behind the directory `dir`: both are read from the end, so that no longer text is ever formed on the way.

@@ -61,7 +61,7 @@ impl<'a> Kept<'a> {
     }
 
     // The same of any text, read from its end.
-    fn read_back(text: &'a [u8], strike: bool, behind: usize) -> Self
+    pub fn read_back(text: &'a [u8], strike: bool, behind: usize) -> Self
         requires { behind ≤ 9223372036854775808 }
         ensures { (result.text.now ≡ text.now) × (result.strike ≡ strike) × (result.behind ≡ behind) }
     {

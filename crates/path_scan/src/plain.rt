@@ -1,5 +1,5 @@
 // A text whose pieces are all names, as most are: it needs no reading from the end.
-ghost use Rattle.std.specs.Prelude.{◌≡◌, Bool, true, ◌≤◌, ◌<◌, length, get_or};
+ghost use Rattle.std.specs.Prelude.{◌≡◌, Bool, true, ◌≤◌, ◌<◌, length, get_or, IfSome};
 ghost use Rattle.path.specs.Answer.{AllNames, Clean, EndIs, PlainIs};
 
 // Where the text begins, but for one slash in front.
@@ -13,6 +13,7 @@ fn text_start(s: &[u8]) -> usize
 }
 
 // Where the text ends, but for one slash at its end.
+#[tactic(auto, using(path::proofs::Following::ends))]
 fn text_end(s: &[u8]) -> usize
     ensures { EndIs s.now result }
 {
@@ -51,7 +52,8 @@ fn all_names(s: &[u8]) -> bool
 // The places between which the pieces of the text are all names, where beside them stand at most a slash in front and one at
 // the end. None: perhaps the text is not so.
 pub fn find_plain(s: &[u8]) -> Option<(usize, usize)>
-    ensures { (strike : Bool) → PlainIs result strike 0 s.now }
+    ensures bounds { IfSome result (λ p. (p.0 ≤ p.1) × (p.1 ≤ length s.now)) }
+    ensures plain { (strike : Bool) → PlainIs result strike 0 s.now }
 {
     let start = text_start(s);
     let end = text_end(s);

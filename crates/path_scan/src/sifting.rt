@@ -43,6 +43,7 @@ impl<'a> Iterator for KeptNames<'a> {
 
     ghost remaining = { λ s. at_most s.rest };
 
+    #[inline(always)]
     fn next(&mut self) -> Option<(usize, usize)> {
         while self.rest > 0 {
             let end = self.rest - 1;

@@ -5,7 +5,7 @@ use mathlib.Core.List.{List, [], ◌∷◌, ◌++◌}
 use mathlib.Core.Path.{◌≡◌, refl, sym, ap, ◌∙◌, subst}
 use Prim.Native.Nat.{ℕ}
 use native.Mathlib.Omega.{arith}
-use lib.ListN.{length, get_or}
+use lib.ListN.{length, take, get_or}
 use Rattle.text.specs.Utf8.{Bytes}
 use Rattle.path.specs.Path.{Name}
 use Rattle.model.specs.Tree.{Path}
@@ -24,10 +24,10 @@ use Rattle.store.specs.Listing.{listed, StepIs, SomeFitting}
 use Rattle.store.proofs.Asked.{told}
 
 -- an entry of a store that shows a state is one of a lawful store
-pub placed : (words records : List ℕ) (spot : Spot) → SomeEntry (with_words words ∘ with_records records) spot → Placed records (get_or words count_at 0) spot
+pub placed : (words records : List ℕ) (spot : Spot) → SomeEntry (with_words words ∘ with_records records) spot → Placed (take (get_or words count_at 0) records) spot
 placed words records spot x =
     let u = (with_words words ∘ with_records records) x.0 in
-    (u.bytes, record { store = trim u; path = x.2; records = refl; bytes = refl; counted = refl; lawful = x.3.roomy.lawful; at = x.4 })
+    (u.bytes, record { store = trim u; path = x.2; records = refl; bytes = refl; lawful = x.3.roomy.lawful; at = x.4 })
 
 module _ {u : Store} {s : State} (h : Shows u s) (p : Path) where
   pub listed-told : listing_of (trim u) p ≡ listed s p
@@ -49,10 +49,10 @@ module _ {u : Store} {s : State} (h : Shows u s) (p : Path) where
 
 -- what fits in the words of the state fits in those of the store
 pub roomy : (words records bytes : List ℕ) (spot : Spot) (out : Bytes) → SomeFitting (with_words words ∘ with_records records ∘ with_bytes bytes) spot out
-    → Roomy records bytes (get_or words count_at 0) spot out
+    → Roomy (take (get_or words count_at 0) records) bytes spot out
 roomy words records bytes spot out x =
     let u = (with_words words ∘ with_records records ∘ with_bytes bytes) x.0 in
     record {
-      held = record { store = trim u; path = x.2; records = refl; bytes = refl; counted = refl; lawful = x.3.roomy.lawful; at = x.4 };
+      held = record { store = trim u; path = x.2; records = refl; bytes = refl; lawful = x.3.roomy.lawful; at = x.4 };
       fits = omega (arith, x.5, ap (λ (l : List (Name × Stat)). length (names_text l)) (listed-told x.3 x.2));
     }

@@ -2,7 +2,7 @@
 // The store in the model's words: each question of the model about an entry, over slices that are as long as the limits ask.
 ghost use Rattle.std.proofs.Math.Option.{some};
 ghost use Rattle.std.specs.Prelude.{◌≡◌, take, get_or};
-ghost use Rattle.layout.specs.Numbers.{extent_at};
+ghost use Rattle.layout.specs.Numbers.{count_at, extent_at};
 ghost use Rattle.layout.specs.Kinds.{kind_from};
 ghost use Rattle.layout.specs.Lent.{◌∘◌, with_words, with_records, with_heads, with_bytes, still, with_times, with_paths};
 ghost use Rattle.layout.specs.Lent.{◌&◌, with_times, with_paths};
@@ -19,12 +19,26 @@ use layout::{COUNT_AT, EXTENT_AT, MASK_AT};
 pub mod listing;
 pub mod space;
 
+// The first of the elements, as many as the state's word at `at` says.
+fn counted<'a>(words: &[u64], at: usize, elements: &'a [u64]) -> &'a [u64]
+    ensures { result.now ≡ take (get_or words.now at 0) elements.now }
+{
+    let n = words.get(at).copied().unwrap_or(0) as usize;
+    elements.get(..n).unwrap_or(elements)
+}
+
 // The words of the slots that there are so far.
 pub(crate) fn in_use<'a>(words: &[u64], heads: &'a [u64]) -> &'a [u64]
     ensures { result.now ≡ take (get_or words.now extent_at 0) heads.now }
 {
-    let n = words.get(EXTENT_AT).copied().unwrap_or(0) as usize;
-    heads.get(..n).unwrap_or(heads)
+    counted(words, EXTENT_AT, heads)
+}
+
+// The records of the entries that there are.
+pub fn live<'a>(words: &[u64], records: &'a [u64]) -> &'a [u64]
+    ensures { result.now ≡ take (get_or words.now count_at 0) records.now }
+{
+    counted(words, COUNT_AT, records)
 }
 
 // The root.
@@ -47,7 +61,7 @@ pub fn child(
     requires { SomeEntry (with_words words.now ∘ with_records records.now ∘ with_bytes bytes.now) dir }
     ensures { ChildIs (still (with_words words.now ∘ with_records records.now ∘ with_bytes bytes.now)) dir name.now hidden result }
 {
-    ask_find::child(records, bytes, words[COUNT_AT] as usize, dir, name, hidden)
+    ask_find::child(live(words, records), bytes, dir, name, hidden)
 }
 
 // The kind of the entry at the spot.
@@ -87,7 +101,7 @@ pub fn bare(words: &[u64], records: &[u64], spot: Spot) -> bool
     requires { SomeEntry (with_words words.now ∘ with_records records.now) spot }
     ensures { OfEntry (still (with_words words.now ∘ with_records records.now)) spot (λ s p. says (bare? p) s ≡ result) }
 {
-    ask_list::is_bare(records, words[COUNT_AT] as usize, spot)
+    ask_list::is_bare(live(words, records), spot)
 }
 
 // The umask.

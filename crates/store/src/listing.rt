@@ -5,15 +5,15 @@ ghost use Rattle.layout.specs.Lent.{◌&◌};
 ghost use Rattle.store.specs.Shows.{OfEntry, SomeEntry};
 ghost use Rattle.store.specs.Listing.{listed, FirstIs, NextIs, names_of, SomeFitting, NamesPut};
 
+use crate::live;
 use ask_find::Spot;
-use layout::COUNT_AT;
 
 // The first entry of the directory at the spot.
 pub fn first(words: &[u64], records: &[u64], spot: Spot) -> Option<Spot>
     requires { SomeEntry (with_words words.now ∘ with_records records.now) spot }
     ensures { FirstIs (still (with_words words.now ∘ with_records records.now)) spot result }
 {
-    ask_list::first(records, words[COUNT_AT] as usize, spot)
+    ask_list::first(live(words, records), spot)
 }
 
 // The entry behind the one at the spot, in the same directory.
@@ -21,7 +21,7 @@ pub fn next(words: &[u64], records: &[u64], spot: Spot) -> Option<Spot>
     requires { SomeEntry (with_words words.now ∘ with_records records.now) spot }
     ensures { NextIs (still (with_words words.now ∘ with_records records.now)) spot result }
 {
-    ask_list::next(records, words[COUNT_AT] as usize, spot)
+    ask_list::next(live(words, records), spot)
 }
 
 // How many entries the directory at the spot has.
@@ -29,7 +29,7 @@ pub fn count(words: &[u64], records: &[u64], spot: Spot) -> usize
     requires { SomeEntry (with_words words.now ∘ with_records records.now) spot }
     ensures { OfEntry (still (with_words words.now ∘ with_records records.now)) spot (λ s p. result ≡ length (listed s p)) }
 {
-    ask_list::entry_count(records, words[COUNT_AT] as usize, spot)
+    ask_list::entry_count(live(words, records), spot)
 }
 
 // The bytes of the names of its entries, with a zero byte behind each.
@@ -37,7 +37,7 @@ pub fn names_length(words: &[u64], records: &[u64], spot: Spot) -> usize
     requires { SomeEntry (with_words words.now ∘ with_records records.now) spot }
     ensures { OfEntry (still (with_words words.now ∘ with_records records.now)) spot (λ s p. result ≡ length (names_of s p)) }
 {
-    ask_list::names_length(records, words[COUNT_AT] as usize, spot)
+    ask_list::names_length(live(words, records), spot)
 }
 
 // Writes these names to the front of the buffer, in order.
@@ -45,5 +45,5 @@ pub fn put_names(out: &mut [u8], words: &[u64], records: &[u64], bytes: &[u8], s
     requires { SomeFitting (with_words words.now ∘ with_records records.now ∘ with_bytes bytes.now) spot out.old }
     ensures { OfEntry (still (with_words words.now ∘ with_records records.now ∘ with_bytes bytes.now)) spot (λ s p. NamesPut s p out.old out.new) }
 {
-    ask_list::put_names(out, records, bytes, words[COUNT_AT] as usize, spot);
+    ask_list::put_names(out, live(words, records), bytes, spot);
 }

@@ -9,7 +9,7 @@ ghost use Rattle.refusal.specs.Numbers.{answered};
 ghost use Rattle.store.specs.Shows.{Of, OfEntry, Some, SomeEntry};
 ghost use Rattle.store.specs.Space.{WeightIs};
 
-use crate::in_use;
+use crate::{in_use, live};
 use ask_find::Spot;
 use layout::{COUNT_AT, MOST_AT, ROOM_AT};
 use refusal::Refusal;
@@ -26,7 +26,7 @@ pub fn links(words: &[u64], records: &[u64], heads: &[u64]) -> usize
     requires { Some (with_words words.now ∘ with_records records.now ∘ with_heads heads.now) }
     ensures { Of (still (with_words words.now ∘ with_records records.now ∘ with_heads heads.now)) (λ _ s. result ≡ links_in s.tree) }
 {
-    ask_used::links_in(records, in_use(words, heads), words[COUNT_AT] as usize)
+    ask_used::links_in(live(words, records), in_use(words, heads))
 }
 
 // The entries used.

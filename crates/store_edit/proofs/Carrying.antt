@@ -24,6 +24,14 @@ use Rattle.ask_find.specs.declared.Spot.{Spot}
 use Rattle.ask_find.specs.Spots.{At}
 use Rattle.store.specs.Shows.{Shows, Stands}
 
+-- the store of which it is said
+abbrev pub shown : {st : Store} {s : State} → Shows st s → Store
+shown {st} h = st
+
+-- with the words of the slots so far alone
+abbrev pub trimmed : {st : Store} {s : State} → Shows st s → Store
+trimmed {st} h = trim st
+
 -- v with the words of the slots that st has behind those so far
 abbrev pub whole : Store → Store → Store
 whole st v = lent v.words v.records (v.heads ++ drop (extent st) st.heads) v.times v.paths v.bytes
@@ -38,7 +46,7 @@ trim_whole st v l = λ i. record { words = v.words; records = v.records; heads =
 pub whole_heads : (st : Store) → (trim st).heads ++ drop (extent st) st.heads ≡ st.heads
 whole_heads st = take-append-drop (extent st) st.heads
 
-module _ (es : List Edit) (st u : Store) (s : State) (h : Shows st s) (r : Roomy u) (k : Alike (state (trim u)) (edited_by es (state (trim st)))) where
+module _ (es : List Edit) {st u : Store} {s : State} (h : Shows st s) (r : Roomy u) (k : Alike (state (trim u)) (edited_by es (state (trim st)))) where
   pub shows_by : Shows u (edited_by es s)
   shows_by =
       let a = lawful-shape (trim u) r.lawful in
@@ -50,28 +58,28 @@ module _ (es : List Edit) (st u : Store) (s : State) (h : Shows st s) (r : Roomy
       }
 
 -- of the words of the slots so far
-module _ (es : List Edit) (st v : Store) (s : State) (h : Shows st s) (k : Spells v (edited_by es (state (trim st))))
+module _ (es : List Edit) {st v : Store} {s : State} (h : Shows st s) (k : Spells v (edited_by es (state (trim st))))
     (n : length v.heads ≡ length (trim st).heads) (m : length v.records ≡ length st.records) where
   pub shows_whole : Shows (whole st v) (edited_by es s)
   shows_whole =
-      shows_by es st (whole st v) s h
+      shows_by es h
       (part-back st.words st.records st.heads v.words v.records v.heads st.times v.times st.paths st.bytes v.paths v.bytes (extent st) h.roomy refl n m k.lawful)
       (subst (λ (x : Store). Alike (state x) (edited_by es (state (trim st)))) (sym (trim_whole st v k.lawful)) k.alike)
 
 -- of other slices: the words of the slots are as they were
-module _ (es : List Edit) (st v : Store) (s : State) (h : Shows st s) (k : Spells v (edited_by es (state (trim st)))) (e : v.heads ≡ (trim st).heads)
+module _ (es : List Edit) {st v : Store} {s : State} (h : Shows st s) (k : Spells v (edited_by es (state (trim st)))) (e : v.heads ≡ (trim st).heads)
     (m : length v.records ≡ length st.records) where
   pub shows_same : Shows (lent v.words v.records st.heads v.times v.paths v.bytes) (edited_by es s)
   shows_same =
       subst (λ (hs : List ℕ). Shows (lent v.words v.records hs v.times v.paths v.bytes) (edited_by es s))
-      (ap (λ (xs : List ℕ). xs ++ drop (extent st) st.heads) e ∙ whole_heads st) (shows_whole es st v s h k (ap length e) m)
+      (ap (λ (xs : List ℕ). xs ++ drop (extent st) st.heads) e ∙ whole_heads st) (shows_whole es h k (ap length e) m)
 
 -- ---- spots
 
 -- where the records and the entries are as they were, every spot stands
-pub spots_same : (st v : Store) → Lawful v → rows_of v ≡ rows_of (trim st) → count v ≡ count st → v.records ≡ st.records → (spot : Spot) (p : Path) → Stands st spot p
+pub spots_same : (st : Store) {v : Store} → Lawful v → rows_of v ≡ rows_of (trim st) → count v ≡ count st → v.records ≡ st.records → (spot : Spot) (p : Path) → Stands st spot p
     → Stands (whole st v) spot p
-spots_same st v l r c w spot p a =
+spots_same st {v} l r c w spot p a =
     subst (λ (x : Store). At x spot p) (sym (trim_whole st v l))
     (record { within = omega (arith, a.within, c); offset = a.offset ∙ ap (λ (ws : List ℕ). name_total (take spot.at ws)) (sym w); path = ap (λ (rs : List Row). path_after [] (take (suc spot.at) rs)) r ∙ a.path })
 

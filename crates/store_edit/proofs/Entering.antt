@@ -23,7 +23,10 @@ use Rattle.layout.proofs.Entered.{Stood, stood}
 use Rattle.layout.proofs.Tables.{open_there}
 use Rattle.ask_find.specs.declared.Spot.{Spot}
 use Rattle.ask_find.proofs.Records.{slot-low, path-look, path-slot}
-use Rattle.ask_entry.specs.Reads.{kind_by}
+use Rattle.ask_entry.specs.declared.Opened.{Opened}
+use Rattle.ask_entry.specs.Reads.{kind_by, NumberIs}
+use Rattle.std.specs.Prelude as std
+use Rattle.std.specs.Prelude.{IsSome}
 use Rattle.ask_entry.proofs.Stats.{kind-told}
 use Rattle.ask_entry.proofs.Numbers.{open-low}
 use Rattle.edit_room.specs.Extents.{trim}
@@ -42,16 +45,12 @@ kind_two k e = go (eqb k 1) (eqb k 2) refl e
 
 -- ---- an entry
 
-module _ (st : Store) (s : State) (h : Shows st s) (spot : Spot) (p : Path) (a : Stands st spot p) where
+module _ {st : Store} {s : State} (h : Shows st s) {spot : Spot} {p : Path} (a : Stands st spot p) where
   abbrev l : Lawful (trim st)
   l = h.roomy.lawful
 
   abbrev slot : ℕ
   slot = slot_of (get_or st.records spot.at 0)
-
-  -- its record is there
-  pub spot-low : spot.at < length st.records
-  spot-low = omega (arith, a.within, l.counted, l.exact.records)
 
   -- its slot is one of those so far
   pub spot-slot : slot < length (trim st).heads
@@ -64,8 +63,8 @@ module _ (st : Store) (s : State) (h : Shows st s) (spot : Spot) (p : Path) (a :
   pub spot-times : 4 * slot + 3 < length st.times
   spot-times = omega (arith, spot-slot, l.exact.heads, l.exact.times, l.slotted)
 
-  pub spot_has : (k : ℕ) → k ≡ slot → HasSlot (trim st) p k
-  spot_has k e = subst (HasSlot (trim st) p) (sym e) (subst (λ (q : Path). HasSlot (trim st) q slot) a.path (path-slot (trim st) l spot.at a.within))
+  pub spot_has : {k : ℕ} → k ≡ slot → HasSlot (trim st) p k
+  spot_has e = subst (HasSlot (trim st) p) (sym e) (subst (λ (q : Path). HasSlot (trim st) q slot) a.path (path-slot (trim st) l spot.at a.within))
 
   pub spot-kind : (k : Kind) → says (kind? p) s ≡ some k → kind_by (kind_at (trim st) slot) ≡ k
   spot-kind k e =
@@ -98,6 +97,11 @@ module _ (st : Store) (s : State) (h : Shows st s) (n : ℕ) where
       go (no z) =
           clash (says (open? n) (state (trim st))) _ (told st s h (open? n) ∙ e)
           (ap (λ (v : Option Open). on_some {B = Position} v (λ q. some (record { pos = q.pos; kept = q.kept }))) (open_there (trim st) 32 0 n (omega arith) (omega (arith, b)) z))
+
+-- a number that is found is open
+pub found-open : {st : Store} {s : State} → Shows st s → (n : ℕ) → NumberOpen n s → (r : std.Option Opened) → NumberIs (trim st) n r → IsSome r
+found-open {st} {s} h n o std.None x = clash (says (open? n) (state (trim st))) o.0 x (told st s h (open? n) ∙ o.1)
+found-open h n o (std.Some y) x = refl
 
 -- ---- a change
 

@@ -9,7 +9,7 @@ use native.Mathlib.Omega.{arith}
 use lib.ListN.{length, take, get_or, replicate, length-append, length-take, length-replicate}
 use Rattle.text.specs.Utf8.{Bytes}
 use Rattle.model.specs.Tree.{Path, Time, Open, write, resize, file_of, open_of}
-use Rattle.model.specs.Prog.{aFile, Position, kind?, held?, answer, on_some, Edit, change, change_held}
+use Rattle.model.specs.Prog.{Position, held?, answer, on_some, Edit, change, change_held}
 use Rattle.model.specs.Operations.Numbers.{resized}
 use Rattle.model.specs.Calls.States.{State, world_of, edited}
 use Rattle.model.proofs.Entries.{clash, some_inj}
@@ -31,7 +31,7 @@ use Rattle.edit_room.specs.Extents.{trim}
 use Rattle.edit_slot.specs.Changes.{HasRoom}
 use Rattle.store.specs.Shows.{Shows, Stands, says}
 use Rattle.store.proofs.Asked.{told}
-use Rattle.store_edit.specs.Turns.{Fits, NumberOpen, MayResize}
+use Rattle.store_edit.specs.Turns.{Fits, NumberOpen, MayWrite, MayResize}
 use Rattle.store_edit.proofs.Entering.{spot-slot, spot-file, spot-look, open_at}
 
 pub length-resized : (k : ℕ) (b : Bytes) → length (resized k b) ≡ k
@@ -40,7 +40,7 @@ length-resized k b =
     length-append (take k b) (replicate (k - length b) 0)
     ∙ omega (arith, length-take k b, length-replicate {A = ℕ} (k - length b) 0)
 
-module _ (st : Store) (s : State) (h : Shows st s) where
+module _ {st : Store} {s : State} (h : Shows st s) where
   abbrev l : Lawful (trim st)
   l = h.roomy.lawful
 
@@ -61,14 +61,13 @@ module _ (st : Store) (s : State) (h : Shows st s) where
   slot-length k b = bytes-length (trim st) k (omega (arith, l.space, l.exact.bytes)) b
 
   -- bytes in the place of a file's
-  pub write-room : (spot : Spot) (p : Path) → Stands st spot p → says (kind? p) s ≡ some aFile → (b : Bytes) (t : Time) → Fits (edited (change p (write b t)) s)
-      → (k : ℕ) → k ≡ slot_of (get_or st.records spot.at 0) → HasRoom (trim st) k (length b)
-  write-room spot p a f b t z k e =
+  pub write-room : {spot : Spot} {p : Path} → Stands st spot p → {b : Bytes} {t : Time} → MayWrite b t s p → {k : ℕ} → k ≡ slot_of (get_or st.records spot.at 0) → HasRoom (trim st) k (length b)
+  write-room {spot} {p} a {b} {t} m e =
       let i = slot_of (get_or st.records spot.at 0) in
-      let low = spot-slot st s h spot p a in
-      let kind = spot-file st s h spot p a f in
-      let y = fits-back (change p (write b t) ∷ []) z in
-      let u = after_write was was_spaced p b t i (file_at (trim st) i) (spot-look st s h spot p a f) (has_file (trim st) l i low kind) in
+      let low = spot-slot h a in
+      let kind = spot-file h a m.is_file in
+      let y = fits-back (change p (write b t) ∷ []) m.fits in
+      let u = after_write was was_spaced p b t i (file_at (trim st) i) (spot-look h a m.is_file) (has_file (trim st) l i low kind) in
       subst (λ (n : ℕ). HasRoom (trim st) n (length b)) (sym e)
       (record { there = low; is_file = kind; room = omega (arith, y.1, u.bytes, bytes-used (trim st) l, slot-length i low) })
 
@@ -105,6 +104,6 @@ module _ (st : Store) (s : State) (h : Shows st s) where
       let z : holder (trim st) n - 1 ≡ k = omega (arith, d) in
       some_inj (sym (held-told (trim st) l n w.0 (λ q. omega (arith, q, d)) ∙ ap (λ (j : ℕ). some (bytes_at (trim st) j)) z) ∙ (told st s h (held? n) ∙ e))
 
-  pub resize-may : (n size : ℕ) (b : Bytes) → MayResize n size b s → (k : ℕ) → holder (trim st) n ≡ suc k → HasRoom (trim st) k size
-  resize-may n size b m k d =
+  pub resize-may : {n size : ℕ} {b : Bytes} → MayResize n size b s → {k : ℕ} → holder (trim st) n ≡ suc k → HasRoom (trim st) k size
+  resize-may {n} {size} {b} m {k} d =
       subst (HasRoom (trim st) k) (length-resized size b) (resize-room n (held_is n b m.has) (resized size b) m.fits k d)

@@ -56,9 +56,9 @@ pub no_look : (o : Option Node) → on_some o (λ n. some (node_kind n)) ≡ non
 no_look none e = refl
 no_look (some n) e = clash (some (node_kind n)) (node_kind n) e refl
 
-pub look-missing : (st : Store) (s : State) → Shows st s → (p : Path) → says (kind? p) s ≡ none → look (state (trim st)).tree p ≡ none
+pub look-missing : {st : Store} {s : State} → Shows st s → (p : Path) → says (kind? p) s ≡ none → look (state (trim st)).tree p ≡ none
 unfolding answer
-look-missing st s h p e = no_look (look (state (trim st)).tree p) (told st s h (kind? p) ∙ e)
+look-missing {st} {s} h p e = no_look (look (state (trim st)).tree p) (told st s h (kind? p) ∙ e)
 
 -- ---- slots of entries
 
@@ -142,14 +142,14 @@ module _ {st u : Store} {s : State} (h : Shows st s) (r : Reserved st u) (recs :
 
         go : (y : Made) → Holds y → Fits (edited (insertion y new p) s) → Insertable (trim u) x y
         go Directory q z =
-            fit Directory (name_length p) (edited (insertion Directory new p) was) (after-make was (was_spaced u s w) p (fresh_meta new) e) (omega (arith, name_is))
-            (fits-back u s w (insertion Directory new p ∷ []) z) refl refl q
+            fit Directory (name_length p) (edited (insertion Directory new p) was) (after-make was (was_spaced w) p (fresh_meta new) e) (omega (arith, name_is))
+            (fits-back w (insertion Directory new p ∷ []) z) refl refl q
         go (File c) q z =
-            fit (File c) (name_length p + length c.now) (edited (insertion (File c) new p) was) (after-create was (was_spaced u s w) p (record { meta = fresh_meta new; bytes = c.now }) e)
-            (omega (arith, name_is)) (fits-back u s w (insertion (File c) new p ∷ []) z) refl refl q
+            fit (File c) (name_length p + length c.now) (edited (insertion (File c) new p) was) (after-create was (was_spaced w) p (record { meta = fresh_meta new; bytes = c.now }) e)
+            (omega (arith, name_is)) (fits-back w (insertion (File c) new p ∷ []) z) refl refl q
         go (Link c) q z =
-            fit (Link c) (name_length p + length c.now) (edited (insertion (Link c) new p) was) (after-symlink was (was_spaced u s w) p (fresh_meta new) c.now e) (omega (arith, name_is))
-            (fits-back u s w (insertion (Link c) new p ∷ []) z) refl refl q
+            fit (Link c) (name_length p + length c.now) (edited (insertion (Link c) new p) was) (after-symlink was (was_spaced w) p (fresh_meta new) c.now e) (omega (arith, name_is))
+            (fits-back w (insertion (Link c) new p ∷ []) z) refl refl q
 
   -- ---- what an insertion asks
 
@@ -172,7 +172,7 @@ module _ {st u : Store} {s : State} (h : Shows st s) (r : Reserved st u) (recs :
       vac = f.free.vacant
 
       missing : look was.tree (d ++ (x ∷ [])) ≡ none
-      missing = look-missing u s w (d ++ (x ∷ [])) f.free.missing
+      missing = look-missing w (d ++ (x ∷ [])) f.free.missing
 
       may : Insertable (trim u) x made
       may = allowed d x made new o f.fits missing
@@ -181,7 +181,7 @@ module _ {st u : Store} {s : State} (h : Shows st s) (r : Reserved st u) (recs :
       room-between : Room (trim st) f.free.hidden d x gap.at → Between (kind_at (trim st)) (take gap.at (rows_of (trim st))) (drop gap.at (rows_of (trim st))) d x
       room-between (between g) = g
       room-between (instead a b z g) =
-          clash (look (state (trim st)).tree (d ++ (x ∷ []))) _ (look-missing st s h (d ++ (x ∷ [])) f.free.missing)
+          clash (look (state (trim st)).tree (d ++ (x ∷ []))) _ (look-missing h (d ++ (x ∷ [])) f.free.missing)
           (ap (look (state (trim st)).tree) (sym z) ∙ path-look (trim st) h.roomy.lawful f.free.hidden a)
 
 -- ---- where the entry stands

@@ -43,7 +43,7 @@ use Rattle.store_edit.proofs.Fitting.{fits-back, was_spaced}
 
 -- ---- what it asks
 
-module _ (st : Store) (s : State) (h : Shows st s) (spot : Spot) (p : Path) (a : Stands st spot p) where
+module _ {st : Store} {s : State} (h : Shows st s) {spot : Spot} {p : Path} (a : Stands st spot p) where
   abbrev l : Lawful (trim st)
   l = h.roomy.lawful
 
@@ -62,21 +62,21 @@ module _ (st : Store) (s : State) (h : Shows st s) (spot : Spot) (p : Path) (a :
   next_low =
       omega (arith, next_offset, total-live (trim st) l (suc i) (omega (arith, a.within)), total-take (live (trim st)) (suc i), l.space, l.byte_limit.1)
 
-  module _ (x : Name) (new : Fresh) (n : MayNestAt x new s p) where
+  module _ {x : Name} {new : Fresh} (n : MayNestAt x new s p) where
     used : Uses was (nested p x (fresh_meta new) was) 1 0 (length x) 0
-    used = after-nest was (was_spaced st s h) p x (fresh_meta new) _ (ap (look was.tree) (sym a.path) ∙ path-look (trim st) l i a.within)
+    used = after-nest was (was_spaced h) p x (fresh_meta new) _ (ap (look was.tree) (sym a.path) ∙ path-look (trim st) l i a.within)
 
     -- one entry more, and its name
     pub nest-more : count st < most st
     nest-more =
-        omega (arith, (fits-back st s h (prog.take p ∷ prog.make p (fresh_meta new) ∷ prog.give (p ++ (x ∷ [])) ∷ []) n.fits).0, used.entries, entries-used (trim st) l)
+        omega (arith, (fits-back h (prog.take p ∷ prog.make p (fresh_meta new) ∷ prog.give (p ++ (x ∷ [])) ∷ []) n.fits).0, used.entries, entries-used (trim st) l)
 
     nest-fits : name_total (live (trim st)) + length x + total (trim st).heads ≤ room st
     nest-fits =
-        omega (arith, (fits-back st s h (prog.take p ∷ prog.make p (fresh_meta new) ∷ prog.give (p ++ (x ∷ [])) ∷ []) n.fits).1, used.bytes, bytes-used (trim st) l)
+        omega (arith, (fits-back h (prog.take p ∷ prog.make p (fresh_meta new) ∷ prog.give (p ++ (x ∷ [])) ∷ []) n.fits).1, used.bytes, bytes-used (trim st) l)
 
-    pub may-nest : T (name_ok x) → HasFree (trim st).heads → (e : ℕ) → e ≡ block_end (trim st) i → nesting.MayNest (trim st) i e x
-    may-nest ok free e z =
+    pub may-nest : T (name_ok x) → HasFree (trim st).heads → {e : ℕ} → e ≡ block_end (trim st) i → nesting.MayNest (trim st) i e x
+    may-nest ok free {e} z =
         record {
           block = block_of (trim st) l i e a.within (below_root (trim st) l spot p a n.below) z;
           name = ok;
@@ -163,8 +163,8 @@ module _ (st v : Store) (l : Lawful st) (i : ℕ) (h : i < count st) (x : Name) 
       }
 
 -- with the words of the other slots behind those so far
-pub stands-nested : (st v : Store) (s : State) (h : Shows st s) (spot : Spot) (p : Path) (a : Stands st spot p) (x : Name) (new : Fresh) (n : nesting.NestedAt (trim st) v spot.at x p new)
-    → (r : Spot) → r.at ≡ suc spot.at → r.off ≡ spot.off + nlen_of (get_or st.records spot.at 0) → Stands (whole st v) r (p ++ (x ∷ []))
-stands-nested st v s h spot p a x new n r e f =
+pub stands-nested : {st v : Store} {s : State} → Shows st s → {spot : Spot} {p : Path} → Stands st spot p → {x : Name} {new : Fresh} → nesting.NestedAt (trim st) v spot.at x p new
+    → {r : Spot} → r.at ≡ suc spot.at → r.off ≡ spot.off + nlen_of (get_or st.records spot.at 0) → Stands (whole st v) r (p ++ (x ∷ []))
+stands-nested {st} {v} {s} h {spot} {p} a {x} {new} n {r} e f =
     subst (λ (u : Store). At u r (p ++ (x ∷ []))) (sym (trim_whole st v n.spells.lawful))
-    (nested_at (trim st) v h.roomy.lawful spot.at a.within x p new n r e (f ∙ sym (next_offset st s h spot p a)) a.path)
+    (nested_at (trim st) v h.roomy.lawful spot.at a.within x p new n r e (f ∙ sym (next_offset h a)) a.path)

@@ -9,9 +9,9 @@ use native.Mathlib.Omega.{arith}
 use lib.ListN.{take}
 use Rattle.model.specs.Tree.{Path}
 use Rattle.layout.specs.Rows.{Row, name_total, rows}
-use Rattle.layout.specs.Store.{Store, lent, most, room, count, live, rows_of}
+use Rattle.layout.specs.Store.{Store, lent, most, count, live, rows_of}
 use Rattle.layout.specs.Parts.{path_after}
-use Rattle.edit_room.specs.Extents.{trim, Roomy, Resized, Reserved, Released}
+use Rattle.edit_room.specs.Extents.{trim, Roomy, Resized, Released}
 use Rattle.ask_find.specs.declared.Spot.{Spot}
 use Rattle.store.specs.Shows.{Stands}
 
@@ -22,9 +22,6 @@ module _ (st u : Store) (r : Resized st u) where
 
   pub most_resized : most u ≡ most st
   most_resized = r.words 0 (λ e. omega (arith, e))
-
-  pub room-resized : room u ≡ room st
-  room-resized = r.words 1 (λ e. omega (arith, e))
 
   module _ (recs : u.records ≡ st.records) where
     pub live-resized : live (trim u) ≡ live (trim st)
@@ -45,12 +42,6 @@ module _ (st u : Store) (r : Resized st u) where
           }
 
 -- the same by what is said of the words of the state and of the slots alone: all else is as it was
-pub stands-reserved : {st : Store} {ws hs : List ℕ} → Roomy st
-    → ((v : Store) → Roomy (lent st.words v.records st.heads v.times v.paths v.bytes) → Reserved (lent st.words v.records st.heads v.times v.paths v.bytes) (lent ws v.records hs v.times v.paths v.bytes))
-    → (spot : Spot) (p : Path) → Stands st spot p → Stands (lent ws st.records hs st.times st.paths st.bytes) spot p
-stands-reserved {st = st} {ws = ws} {hs = hs} h f spot p a =
-    stands-resized st (lent ws st.records hs st.times st.paths st.bytes) (f st h).resized refl refl spot p a
-
 pub stands-released : {st : Store} {ws hs : List ℕ} → Roomy st
     → ((v : Store) → Roomy (lent st.words v.records st.heads v.times v.paths v.bytes) → Released (lent st.words v.records st.heads v.times v.paths v.bytes) (lent ws v.records hs v.times v.paths v.bytes))
     → (spot : Spot) (p : Path) → Stands st spot p → Stands (lent ws st.records hs st.times st.paths st.bytes) spot p

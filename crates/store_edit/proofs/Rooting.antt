@@ -41,7 +41,7 @@ module _ {st u : Store} {s : State} (h : Shows st s) (r : Reserved st u) where
   root-may m f = record { empty = empty (ℕ_discrete (count u) 0); free = r.free (omega (arith, empty (ℕ_discrete (count u) 0), few, count-resized st u r.resized, most_resized st u r.resized)) }
     where
       missing : look (state (trim u)).tree [] ≡ none
-      missing = look-missing u s w [] f.missing
+      missing = look-missing w [] f.missing
 
       empty : Dec (count u ≡ 0) → count u ≡ 0
       empty (yes e) = e
@@ -50,7 +50,7 @@ module _ {st u : Store} {s : State} (h : Shows st s) (r : Reserved st u) where
           clash (look (state (trim u)).tree []) _ missing (ap (look (state (trim u)).tree) (sym (first_path (trim u) w.roomy.lawful low)) ∙ path-look (trim u) w.roomy.lawful 0 low)
 
       few : 1 ≤ most u
-      few = omega (arith, (fits-back u s w (make [] m ∷ []) f.fits).0, (after-make (state (trim u)) (was_spaced u s w) [] m missing).entries)
+      few = omega (arith, (fits-back w (make [] m ∷ []) f.fits).0, (after-make (state (trim u)) (was_spaced w) [] m missing).entries)
 
 none_there : (t : Entries) → length t ≡ 0 → t ≡ []
 none_there [] e = refl

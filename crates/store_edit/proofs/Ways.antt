@@ -153,8 +153,8 @@ not_above : (p d : Path) → behind p d ≡ none → p ≡ [] → ⊥
 unfolding behind
 not_above p d n e = clash (behind p d) d n (ap (λ (q : Path). behind q d) e)
 
-module _ (st : Store) (s : State) (sh : Shows st s) (spot : Spot) (p d : Path) (gap : Gap) (y : Name) (a : Stands st spot p) (m : MayMove spot gap y st s p d)
-    (ok : T (name_ok y)) (e : ℕ) (z : e ≡ block_end (trim st) spot.at) where
+module _ {st : Store} {s : State} (sh : Shows st s) {spot : Spot} {p d : Path} {gap : Gap} {y : Name} (a : Stands st spot p) (m : MayMove spot gap y st s p d) (ok : T (name_ok y)) {e : ℕ}
+    (z : e ≡ block_end (trim st) spot.at) where
   abbrev l : Lawful (trim st)
   l = sh.roomy.lawful
 
@@ -174,8 +174,8 @@ module _ (st : Store) (s : State) (sh : Shows st s) (spot : Spot) (p d : Path) (
 
   fits : name_total (live (trim st)) + length y + total (trim st).heads ≤ room st + length (row_at (trim st) i).name
   fits =
-      let f = fits-back st s sh (prog.take p ∷ prog.give new ∷ []) m.fits in
-      let u = after-move was (was_spaced st s sh) p new _ (ap (look was.tree) (sym a.path) ∙ path-look (trim st) l i a.within) bare in
+      let f = fits-back sh (prog.take p ∷ prog.give new ∷ []) m.fits in
+      let u = after-move was (was_spaced sh) p new _ (ap (look was.tree) (sym a.path) ∙ path-look (trim st) l i a.within) bare in
       let n = (weight_is (trim st) l spot p a _ _ _ refl refl refl).name in
       omega (arith, f.1, u.bytes, bytes-used (trim st) l, n, name-long (trim st) l spot p a, snoc-length d y)
 

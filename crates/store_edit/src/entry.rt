@@ -15,7 +15,7 @@ use ask_find::{Gap, Spot};
 use edit_entry::insert::{insert_entry, insert_root};
 use edit_entry::lent::Entries;
 use edit_entry::made::{Fresh, Made};
-use layout::{COUNT_AT, EXTENT_AT, depth_of};
+use layout::{EXTENT_AT, depth_of};
 
 // The entry `name` at the gap: the model's make, create or symlink.
 pub fn insert(l: Entries, heads: &mut [u64], gap: Gap, name: &[u8], made: Made, new: Fresh) -> Spot
@@ -69,6 +69,7 @@ pub fn make_root(l: Entries, heads: &mut [u64], new: Fresh) -> Spot
 }
 
 // The entry at the spot goes, with all below it; a file that a number stands on keeps its bytes.
+// kept: the slices are lent one by one, since a removal touches no times.
 pub fn remove(
     words: &mut [u64],
     records: &mut [u64],
@@ -82,7 +83,7 @@ pub fn remove(
         & on_bytes bytes.old bytes.new) (Removes spot) }
 {
     let i = spot.at;
-    let e = ask_find::block_end(records, words[COUNT_AT] as usize, i);
+    let e = ask_find::block_end(store::live(words, records), i);
     let slots = words[EXTENT_AT] as usize;
     edit_entry::removing::remove_entry(words, records, &mut heads[..slots], bytes, i, e);
     edit_room::release(words, heads);

@@ -10,7 +10,8 @@ ghost use Rattle.store_edit.specs.Moves.{SomeMove, Moves, MayNestAt, Nests, Some
 use ask_find::{Gap, Spot, block_end};
 use edit_entry::lent::Entries;
 use edit_entry::made::Fresh;
-use layout::{COUNT_AT, EXTENT_AT, nlen_of};
+use layout::{EXTENT_AT, nlen_of};
+use store::live;
 
 // The entry at the spot, with all below it, becomes the entry `name` at the gap, which was found with the entry itself counted as out.
 pub fn move_to(
@@ -25,7 +26,7 @@ pub fn move_to(
     ensures { On (still (with_words words.now) & on_records records.old records.new & on_bytes bytes.old bytes.new) (Moves spot gap name.now) }
 {
     let i = spot.at;
-    let end = block_end(records, words[COUNT_AT] as usize, i);
+    let end = block_end(live(words, records), i);
     edit_entry::moving::move_entry(words, records, bytes, i, end, gap.at, gap.depth, name);
 }
 
@@ -42,7 +43,7 @@ fn nest_free(l: Entries, heads: &mut [u64], spot: Spot, name: &[u8], new: Fresh)
     } = l;
     let i = spot.at;
     let off = spot.off + nlen_of(records[i]);
-    let end = block_end(records, words[COUNT_AT] as usize, i);
+    let end = block_end(live(words, records), i);
     let slots = words[EXTENT_AT] as usize;
     let lent = Entries {
         words,

@@ -11,7 +11,7 @@ ghost use Rattle.edit_slot.specs.Times.{in_model};
 ghost use Rattle.store_edit.specs.Turns.{SomeState, SomeSpot, NumberOpen, TurnsHeld, MayOpenOn, Opens, MayResize, Resizes};
 
 use ask_find::Spot;
-use layout::{EXTENT_AT, HOLDER_AT, NUMBER_WORDS, slot_of};
+use layout::{EXTENT_AT, slot_of};
 
 // Opens the closed number n on the file at the spot; the path, a text as it is kept, is the file's.
 pub fn opens(
@@ -32,6 +32,7 @@ pub fn opens(
 }
 
 // Closes the open number n. A file without a name goes with its last number.
+// kept: the slices are lent one by one: it takes those that it touches, and the records to be read alone.
 pub fn close(words: &mut [u64], records: &[u64], heads: &mut [u64], bytes: &mut [u8], n: usize)
     requires { SomeState (with_words words.old ∘ with_records records.now ∘ with_heads heads.old ∘ with_bytes bytes.old) (λ st s. NumberOpen n s) }
     ensures { On (on_words words.old words.new & still (with_records records.now) & on_heads heads.old heads.new
@@ -47,7 +48,7 @@ fn held_slot(words: &[u64], n: usize) -> usize
     requires { SomeState (with_words words.now) (λ st s. NumberOpen n s) }
     ensures { (n < file_numbers) × (get_or words.now (holder_at n) 0 ≡ suc result) }
 {
-    (words[HOLDER_AT + NUMBER_WORDS * n] - 1) as usize
+    ask_entry::number_at(words, n).unwrap().slot
 }
 
 // The mode of its file.

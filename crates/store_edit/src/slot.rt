@@ -31,6 +31,7 @@ pub fn touch(records: &[u64], times: &mut [i64], spot: Spot, a: i64, t: i64)
 }
 
 // Other bytes of a file, and the time modified.
+// kept: the slices are lent one by one, since the words and the records are read alone, and Entries lends them to be written.
 pub fn write(
     words: &[u64],
     records: &[u64],

@@ -3,9 +3,10 @@
 // that obeys the rules.
 use edit_entry::made::{Fresh, Made};
 use layout::EXTENT_AT;
+use layout::slices::Slices;
 use test_tried::asked::ready;
 use test_tried::entry::{insert_in, remove_in};
-use test_tried::place::{insertable, spot_for};
+use test_tried::place::{insertable, spot_in};
 use test_tried::slot::contents_in;
 
 // What comes before an insertion: the place of each name, of which each has 10 bytes, in the directory at record dir, and whether
@@ -26,25 +27,20 @@ pub extern "C" fn timed_place(
         return 0;
     }
     let slots = words[EXTENT_AT] as usize;
-    let used = &heads[..slots];
+    let lent = Slices {
+        words,
+        records,
+        heads: &heads[..slots],
+        times,
+        paths,
+        bytes,
+    };
+    let made = Made::File(text);
     let mut at = 0;
     while 10 <= names.len() - at {
         let e = at + 10;
         let name = &names[at..e];
-        let spot = spot_for(words, records, used, times, paths, bytes, dir, name);
-        if spot.at == 0 {
-            return at / 10;
-        }
-        if !insertable(
-            words,
-            records,
-            used,
-            times,
-            paths,
-            bytes,
-            name,
-            Made::File(text),
-        ) {
+        if spot_in(lent, dir, name).is_none() || !insertable(lent, name, made) {
             return at / 10;
         }
         at = e;

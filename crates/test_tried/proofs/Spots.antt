@@ -26,10 +26,15 @@ use Rattle.lawful.proofs.KeptPaths.{piece-name}
 use Rattle.layout.specs.Parts.{path_after, Between}
 use Rattle.layout.proofs.Edited.Removing.{begins, rises-behind}
 use Rattle.ask_find.specs.declared.Gap.{Gap}
-use Rattle.ask_find.specs.Paths.{path_at}
-use Rattle.ask_find.specs.Spots.{At, Room, between, instead, Vacant}
+use Rattle.ask_find.specs.declared.Spot.{Spot}
+use Rattle.ask_find.specs.Paths.{slot_at, path_at}
+use Rattle.ask_find.specs.Spots.{At, Room, between, instead, Vacant, nothing, Looks, ChildIs}
+use Rattle.ask_find.proofs.Children.{dir-told}
+use native.Mathlib.Nat.{le_refl}
+use Rattle.std.specs.Prelude.{Result, Ok, Err, IfSome}
+use Rattle.std.specs.Result.{result_ok, result_err}
 use Rattle.ask_find.proofs.Records.{path-rises}
-use Rattle.test_tried.specs.Tried.{Spotted}
+use Rattle.test_tried.specs.Tried.{Spotted, ChildOf}
 
 -- a text whose last piece is all of it has no slash
 pub name-said : (s : Bytes) (a : ℕ) → a ≡ 0 → PieceIs s a (length s) → T (piece_ok s) → T (name_ok s)
@@ -62,3 +67,28 @@ spotted st l i h x n g e v = go v.room
     go : Room st (count st) (path_at st i) x g.at → Spotted st i g.at g.depth x
     go (between w) = record { after = after-dir st l i g.at x h v.first v.last w; vacant = record { first = v.first; last = v.last; deep = v.deep; name = n; gap = w; missing = e } }
     go (instead a b c w) = absurd (omega (arith, a))
+
+-- ---- what `find` answers of a name in the directory at a record
+
+module _ (st : Store) (l : Lawful st) (i : ℕ) (d : (i < count st) × (kind_at st (slot_at st i) ≡ 1)) (x : Name) where
+  looked : {o : ℕ} → o ≡ name_total (take i st.records) → (r : Result Spot Gap) → ChildIs st.records st.bytes (count st) (record { at = i; off = o }) x (count st) r
+      → Looks st (count st) (state st).tree (path_at st i) x r
+  looked {o} e r k = k st refl refl refl l (path_at st i) (state st).tree (at_record st i o d.0 e) (nothing (le_refl (count st)) refl) (dir-told st l i d.0 d.1)
+
+  -- its place, if it is missing
+  pub place-found : T (name_ok x) → {o : ℕ} → o ≡ name_total (take i st.records) → (r : Result Spot Gap) → ChildIs st.records st.bytes (count st) (record { at = i; off = o }) x (count st) r
+      → IfSome (result_err r) (λ g. Spotted st i g.at g.depth x)
+  place-found n e r k = go r (looked e r k)
+    where
+      go : (v : Result Spot Gap) → Looks st (count st) (state st).tree (path_at st i) x v → IfSome (result_err v) (λ g. Spotted st i g.at g.depth x)
+      go (Ok s) y = tt
+      go (Err g) y = spotted st l i d.0 x n g y.0 y.1
+
+  -- its record, if it is there
+  pub record-found : {o : ℕ} → o ≡ name_total (take i st.records) → (r : Result Spot Gap) → ChildIs st.records st.bytes (count st) (record { at = i; off = o }) x (count st) r
+      → IfSome (result_ok r) (λ s. ChildOf st i x s.at)
+  record-found e r k = go r (looked e r k)
+    where
+      go : (v : Result Spot Gap) → Looks st (count st) (state st).tree (path_at st i) x v → IfSome (result_ok v) (λ s. ChildOf st i x s.at)
+      go (Ok s) y = record { within = y.at.within; path = y.at.path }
+      go (Err g) y = tt

@@ -23,21 +23,20 @@ use Rattle.ask_find.proofs.Records.{path-rises}
 use Rattle.ask_used.proofs.Weighing.{name-long}
 use Rattle.edit_entry.specs.Movement.{Movable}
 use Rattle.store_edit.proofs.Ways.{way}
-use Rattle.test_tried.specs.Tried.{Spotted}
+use Rattle.test_tried.specs.Tried.{Spotted, Renamable}
 use Rattle.test_tried.proofs.Spots.{at_record}
 
-module _ (st : Store) (l : Lawful st) (i : ℕ) (h : i < count st) (a : 0 < i) (e dir p depth : ℕ) (y : Name) (z : e ≡ block_end st i) (o : i ≤ dir → dir < e → ⊥)
-    (s : Spotted st dir p depth y) where
+module _ {st : Store} (l : Lawful st) {i n : ℕ} (m : Renamable st i n) {e dir p depth : ℕ} {y : Name} (z : e ≡ block_end st i) (o : i ≤ dir → dir < e → ⊥) (s : Spotted st dir p depth y) where
   -- the directory stands before the entry, and so its path does not begin with the entry's
   outside : i < p → p ≤ e → behind (path_at st i) (path_at st dir) ≡ none
   outside u v = go (leb i dir) refl
     where
       go : (b : Bool) → leb i dir ≡ b → behind (path_at st i) (path_at st dir) ≡ none
       go true f = absurd (o (leb-true i dir f) (omega (arith, s.after)))
-      go false f = rises-behind (path_at st i) (path_at st dir) (path-rises st l dir i (leb-false i dir f) h)
+      go false f = rises-behind (path_at st i) (path_at st dir) (path-rises st l dir i (leb-false i dir f) m.last)
 
-  pub movable : name_total (live st) + length y + total st.heads ≤ room st + nlen_of (get_or st.records i 0) → Movable st i e p depth y
+  pub movable : n ≡ length y → Movable st i e p depth y
   movable f =
       let v = s.vacant in
-      (way st l i h (path_at st dir) y v.name p v.first v.last (between v.gap) a e z outside depth v.deep
-      (omega (arith, f, name-long st l _ (path_at st i) (at_record st i _ h refl)))).may
+      (way st l i m.last (path_at st dir) y v.name p v.first v.last (between v.gap) m.first e z outside depth v.deep
+      (omega (arith, f, m.fits, name-long st l _ (path_at st i) (at_record st i _ m.last refl)))).may

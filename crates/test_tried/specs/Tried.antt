@@ -1,22 +1,23 @@
 -- What the tests say: lengths of slices that no limit cuts, a place for an entry, and room for another name.
 -- Assumes nothing.
-use Rattle.std.specs.Prelude.{List, ◌≡◌, ℕ, ◌+◌, ◌*◌, ◌≤◌, ◌<◌, length, get_or}
-use Rattle.path.specs.Path.{Name}
+use Rattle.std.specs.Prelude.{[], ◌∷◌, ◌++◌, ◌≡◌, ℕ, ◌+◌, ◌*◌, ◌≤◌, ◌<◌, length, get_or}
+use Rattle.text.specs.Utf8.{Bytes}
+use Rattle.path.specs.Path.{Name, pieces}
 use Rattle.layout.specs.Fields.{nlen_of}
 use Rattle.layout.specs.Rows.{name_total}
 use Rattle.layout.specs.Slots.{total}
-use Rattle.layout.specs.Store.{Store, room, count, live}
+use Rattle.layout.specs.Store.{Store, most, room, count, live}
 use Rattle.ask_find.specs.Paths.{path_at}
 use Rattle.edit_entry.specs.Insertion.{Vacancy}
 
 -- the lengths of the slices are what the limits ask
-pub record Whole (ws : List ℕ) (rs hs ts ps bs : ℕ) : Type 0 where
-  pub words : length ws ≡ 102
-  pub records : rs ≡ get_or ws 0 0
-  pub heads : hs ≡ get_or ws 0 0 + 32
-  pub times : ts ≡ 4 * (get_or ws 0 0 + 32)
-  pub paths : ps ≡ 33792
-  pub bytes : bs ≡ get_or ws 1 0
+pub record Whole (st : Store) : Type 0 where
+  pub words : length st.words ≡ 102
+  pub records : length st.records ≡ most st
+  pub heads : length st.heads ≡ most st + 32
+  pub times : length st.times ≡ 4 * (most st + 32)
+  pub paths : length st.paths ≡ 33792
+  pub bytes : length st.bytes ≡ room st
 
 -- n more bytes are within the byte limit where `free` bytes go
 abbrev pub Fits : Store → ℕ → ℕ → Type 0
@@ -32,3 +33,13 @@ pub record Renamable (st : Store) (i n : ℕ) : Type 0 where
   pub first : 0 < i
   pub last : i < count st
   pub fits : name_total (live st) + n + total st.heads ≤ room st + nlen_of (get_or st.records i 0)
+
+-- record i is that of the entry x of the directory at record dir
+pub record ChildOf (st : Store) (dir : ℕ) (x : Name) (i : ℕ) : Type 0 where
+  pub within : i < count st
+  pub path : path_at st i ≡ path_at st dir ++ (x ∷ [])
+
+-- the path, with the empty piece in front of its first slash, leads to record i
+pub record LedTo (st : Store) (s : Bytes) (i : ℕ) : Type 0 where
+  pub within : i < count st
+  pub path : pieces s ≡ [] ∷ path_at st i

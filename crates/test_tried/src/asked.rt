@@ -1,7 +1,7 @@
 // What the edits ask of a store.
-ghost use Rattle.std.specs.Prelude.{true, ◌≡◌, ◌<◌};
+ghost use Rattle.std.specs.Prelude.{true, ◌≡◌, ◌<◌, length};
 ghost use Rattle.layout.specs.Numbers.{lengths};
-ghost use Rattle.layout.specs.Lent.{lends};
+ghost use Rattle.layout.specs.Lent.{lends, lent_by};
 ghost use Rattle.layout.specs.Lawful.{Lawful};
 ghost use Rattle.edit_room.specs.Extents.{Roomy};
 ghost use Rattle.test_tried.specs.Tried.{Whole, Fits};
@@ -11,37 +11,21 @@ use layout::{FILE_NUMBERS, MOST_AT, MOST_ENTRIES, PATHS_BYTES, ROOM_AT, WORD_COU
 
 const MOST: usize = MOST_ENTRIES as usize;
 
-// Whether slices of those lengths are as long as the limits ask, and no longer.
-fn whole(
-    words: &[u64],
-    records: usize,
-    heads: usize,
-    times: usize,
-    paths: usize,
-    bytes: usize,
-) -> bool
-    ensures { result ≡ true → Whole words.now records heads times paths bytes }
+// Whether the slices are as long as the limits ask, and no longer.
+fn whole(lent: Slices) -> bool
+    ensures { result ≡ true → Whole (lent_by lent.entry) }
 {
-    if words.len() != WORD_COUNT {
+    if lent.words.len() != WORD_COUNT {
         return false;
     }
-    let most = words[MOST_AT] as usize;
-    if MOST < most {
-        return false;
-    }
-    if records != most {
-        return false;
-    }
-    if heads != most + FILE_NUMBERS {
-        return false;
-    }
-    if times != 4 * heads {
-        return false;
-    }
-    if paths != PATHS_BYTES {
-        return false;
-    }
-    bytes == words[ROOM_AT] as usize
+    let most = lent.words[MOST_AT] as usize;
+    let slots = lent.heads.len();
+    most <= MOST
+        && lent.records.len() == most
+        && slots == most + FILE_NUMBERS
+        && lent.times.len() == 4 * slots
+        && lent.paths.len() == PATHS_BYTES
+        && lent.bytes.len() == lent.words[ROOM_AT] as usize
 }
 
 // Whether the slices are a store that an edit may be made in.
@@ -55,43 +39,25 @@ pub fn ready(
 ) -> bool
     ensures { result ≡ true → Roomy (lends words.now records.now heads.now times.now paths.now bytes.now) }
 {
-    if !whole(
-        words,
-        records.len(),
-        heads.len(),
-        times.len(),
-        paths.len(),
-        bytes.len(),
-    ) {
-        return false;
-    }
-    lawful::store_ok(Slices {
+    let lent = Slices {
         words,
         records,
         heads,
         times,
         paths,
         bytes,
-    })
+    };
+    whole(lent) && lawful::store_ok(lent)
 }
 
 // Whether n more bytes are within the byte limit where `free` bytes go: by the bytes used, worked out from the tree.
-pub fn room_for(
-    words: &[u64],
-    records: &[u64],
-    heads: &[u64],
-    times: &[i64],
-    paths: &[u8],
-    bytes: &[u8],
-    free: usize,
-    n: usize,
-) -> bool
-    requires { Lawful (lends words.now records.now heads.now times.now paths.now bytes.now) × (free < lengths) }
-    ensures { result ≡ true → Fits (lends words.now records.now heads.now times.now paths.now bytes.now) free n }
+pub fn room_for(lent: Slices, free: usize, n: usize) -> bool
+    requires { Lawful (lent_by lent) × (free < lengths) }
+    ensures { result ≡ true → Fits (lent_by lent.entry) free n }
 {
     if 16777216 < n {
         return false;
     }
-    let used = ask_used::bytes_used(words, records, heads);
-    used + n <= bytes.len() + free
+    let used = ask_used::bytes_used(lent.words, lent.records, lent.heads);
+    used + n <= lent.bytes.len() + free
 }

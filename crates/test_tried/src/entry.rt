@@ -6,10 +6,11 @@ ghost use Rattle.slots.specs.Free.{HasFree};
 ghost use Rattle.edit_room.specs.Extents.{Roomy};
 
 use crate::asked::ready;
-use crate::place::{insertable, made_of, spot_for};
+use crate::place::{insertable, made_of, spot_in};
 use edit_entry::insert::{insert_entry, insert_root};
 use edit_entry::lent::Entries;
 use edit_entry::made::{Fresh, Made};
+use layout::slices::Slices;
 use layout::{COUNT_AT, EXTENT_AT};
 
 pub fn try_root(
@@ -58,22 +59,27 @@ fn insert_exact(
         (lends words.old records.old heads.old times.old paths.now bytes.old) × (get_or words.old 2 0 < get_or words.old 0 0 → HasFree heads.old) }
     ensures { Lawful (lends words.new records.new heads.new times.new paths.now bytes.new) }
 {
-    let spot = spot_for(words, records, heads, times, paths, bytes, dir, name);
-    let at = spot.at;
-    if at == 0 {
+    let lent = Slices {
+        words,
+        records,
+        heads,
+        times,
+        paths,
+        bytes,
+    };
+    let Some(gap) = spot_in(lent, dir, name) else {
+        return false;
+    };
+    if !insertable(lent, name, made) {
         return false;
     }
-    if !insertable(words, records, heads, times, paths, bytes, name, made) {
-        return false;
-    }
-    let depth = spot.depth;
-    let lent = Entries {
+    let entries = Entries {
         words,
         records,
         times,
         bytes,
     };
-    insert_entry(lent, heads, at, depth, name, made, new);
+    insert_entry(entries, heads, gap.at, gap.depth, name, made, new);
     true
 }
 
@@ -157,7 +163,7 @@ fn remove_exact(
     if count <= i {
         return false;
     }
-    let e = ask_find::block_end(records, count, i);
+    let e = ask_find::block_end(&records[..count], i);
     edit_entry::removing::remove_entry(words, records, heads, bytes, i, e);
     true
 }

@@ -1,101 +1,51 @@
 // An entry moved, with all below it.
-ghost use Rattle.std.specs.Prelude.{true, ◌≡◌, ◌<◌, ◌≤◌};
-ghost use Rattle.layout.specs.Lent.{lends};
+ghost use Rattle.std.specs.Prelude.{IfSome, true, ◌≡◌};
+ghost use Rattle.layout.specs.Lent.{lent_by};
 ghost use Rattle.layout.specs.Lawful.{Lawful};
 ghost use Rattle.edit_entry.specs.Movement.{Movable};
 ghost use Rattle.test_tried.specs.Tried.{Renamable};
 
 use crate::asked::{ready, room_for};
 use crate::place::spot_in;
-use layout::{COUNT_AT, EXTENT_AT};
+use ask_find::{Gap, block_end};
+use layout::slices::Slices;
+use layout::{COUNT_AT, EXTENT_AT, nlen_of};
 
 // Whether record i is there, is not the root's, and may have a name of n bytes within the byte limit.
-fn may_rename(
-    words: &[u64],
-    records: &[u64],
-    heads: &[u64],
-    times: &[i64],
-    paths: &[u8],
-    bytes: &[u8],
-    i: usize,
-    n: usize,
-) -> bool
-    requires { Lawful (lends words.now records.now heads.now times.now paths.now bytes.now) }
-    ensures { result ≡ true → Renamable (lends words.now records.now heads.now times.now paths.now bytes.now) i n }
+fn may_rename(lent: Slices, i: usize, n: usize) -> bool
+    requires { Lawful (lent_by lent) }
+    ensures { result ≡ true → Renamable (lent_by lent.entry) i n }
 {
     if i == 0 {
         return false;
     }
-    if words[COUNT_AT] as usize <= i {
+    if lent.words[COUNT_AT] as usize <= i {
         return false;
     }
-    room_for(
-        words,
-        records,
-        heads,
-        times,
-        paths,
-        bytes,
-        layout::nlen_of(records[i]),
-        n,
-    )
+    room_for(lent, nlen_of(lent.records[i]), n)
 }
 
-// Whether record k is none of those from i to e.
-fn outside(i: usize, e: usize, k: usize) -> bool
-    ensures { result ≡ true → i ≤ k → k < e → ⊥ }
-{
-    if k < i {
-        return true;
-    }
-    e <= k
-}
-
-// The end of an entry's records, the record before which they may go, and the entry's depth there; no entry goes before record 0.
+// The end of an entry's records, and where they may go.
 #[derive(Drop)]
 struct Way {
     end: usize,
-    at: usize,
-    depth: usize,
+    gap: Gap,
 }
 
 // Where the entry at record i may go, to be the entry `name` of the directory at record dir: not into itself, nor below itself.
-fn way_to(
-    words: &[u64],
-    records: &[u64],
-    heads: &[u64],
-    times: &[i64],
-    paths: &[u8],
-    bytes: &[u8],
-    i: usize,
-    dir: usize,
-    name: &[u8],
-) -> Way
-    requires { Lawful (lends words.now records.now heads.now times.now paths.now bytes.now) }
-    ensures { (result.at ≡ 0 → ⊥)
-        → Movable (lends words.now records.now heads.now times.now paths.now bytes.now) i result.end result.at result.depth name.now }
+fn way_to(lent: Slices, i: usize, dir: usize, name: &[u8]) -> Option<Way>
+    requires { Lawful (lent_by lent) }
+    ensures { IfSome result (λ w. Movable (lent_by lent.entry) i w.end w.gap.at w.gap.depth name.now) }
 {
-    if !may_rename(words, records, heads, times, paths, bytes, i, name.len()) {
-        return Way {
-            end: 0,
-            at: 0,
-            depth: 0,
-        };
+    if !may_rename(lent, i, name.len()) {
+        return None;
     }
-    let end = ask_find::block_end(records, words[COUNT_AT] as usize, i);
-    if !outside(i, end, dir) {
-        return Way {
-            end: 0,
-            at: 0,
-            depth: 0,
-        };
+    let end = block_end(&lent.records[..lent.words[COUNT_AT] as usize], i);
+    if (i..end).contains(&dir) {
+        return None;
     }
-    let spot = spot_in(words, records, heads, times, paths, bytes, dir, name);
-    Way {
-        end,
-        at: spot.at,
-        depth: spot.depth,
-    }
+    let gap = spot_in(lent, dir, name)?;
+    Some(Way { end, gap })
 }
 
 // The entry at record i becomes the entry `name` of the directory at record dir, which has none of that name.
@@ -114,23 +64,18 @@ pub fn try_move(
         return false;
     }
     let slots = words[EXTENT_AT] as usize;
-    let way = way_to(
+    let lent = Slices {
         words,
         records,
-        &heads[..slots],
+        heads: &heads[..slots],
         times,
         paths,
         bytes,
-        i,
-        dir,
-        name,
-    );
-    let at = way.at;
-    if at == 0 {
+    };
+    let Some(way) = way_to(lent, i, dir, name) else {
         return false;
-    }
-    let end = way.end;
-    let depth = way.depth;
-    edit_entry::moving::move_entry(words, records, bytes, i, end, at, depth, name);
+    };
+    let Way { end, gap } = way;
+    edit_entry::moving::move_entry(words, records, bytes, i, end, gap.at, gap.depth, name);
     true
 }

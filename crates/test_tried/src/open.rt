@@ -1,98 +1,67 @@
 // A file number opened, by a path.
-ghost use Rattle.std.specs.Prelude.{[], ◌∷◌, ◌++◌, ◌≡◌, ◌-◌, ◌<◌, ◌≤◌, T, length};
+ghost use Rattle.std.specs.Prelude.{IfSome, ◌≡◌, ◌<◌, T, length};
 ghost use Rattle.std.proofs.Math.Option.{some};
-ghost use Rattle.path.specs.Path.{names, pieces};
+ghost use Rattle.path.specs.Path.{names};
 ghost use Rattle.model.specs.Tree.{file, look};
-ghost use Rattle.layout.specs.Store.{count, state};
-ghost use Rattle.layout.specs.Lent.{lends};
+ghost use Rattle.layout.specs.Store.{state};
+ghost use Rattle.layout.specs.Lent.{lent_by};
 ghost use Rattle.layout.specs.Lawful.{Lawful, cell_ok};
-ghost use Rattle.ask_find.specs.Paths.{path_at};
+ghost use Rattle.test_tried.specs.Tried.{ChildOf, LedTo};
 
 use crate::asked::ready;
 use crate::place::is_dir;
 use ask_find::Spot;
-use layout::{CELL_BYTES, COUNT_AT, EXTENT_AT, FILE_NUMBERS, HOLDER_AT, NUMBER_WORDS};
+use layout::kind::Kind;
+use layout::slices::Slices;
+use layout::{
+    CELL_BYTES, COUNT_AT, EXTENT_AT, FILE_NUMBERS, HOLDER_AT, NUMBER_WORDS, kind_of, slot_of,
+};
 use path::pieces::piece_end;
 
-// The record of the entry `name` of the directory at record dir; the number of entries where there is none.
-fn child(
-    words: &[u64],
-    records: &[u64],
-    heads: &[u64],
-    times: &[i64],
-    paths: &[u8],
-    bytes: &[u8],
-    dir: usize,
-    name: &[u8],
-) -> usize
-    requires { Lawful (lends words.now records.now heads.now times.now paths.now bytes.now) }
-    ensures { result < count (lends words.now records.now heads.now times.now paths.now bytes.now)
-        → (dir < count (lends words.now records.now heads.now times.now paths.now bytes.now))
-        × (path_at (lends words.now records.now heads.now times.now paths.now bytes.now) result ≡ path_at
-        (lends words.now records.now heads.now times.now paths.now bytes.now) dir ++
-        (name.now ∷ [])) }
+// The record of the entry `name` of the directory at record dir.
+fn child(lent: Slices, dir: usize, name: &[u8]) -> Option<usize>
+    requires { Lawful (lent_by lent) }
+    ensures { IfSome result (λ i. ChildOf (lent_by lent.entry) dir name.now i) }
 {
-    let count = words[COUNT_AT] as usize;
-    if !is_dir(words, records, heads, times, paths, bytes, dir) {
-        return count;
+    if !is_dir(lent, dir) {
+        return None;
     }
-    let off = records::names_to(records, dir);
-    match ask_find::child(records, bytes, count, Spot { at: dir, off }, name, count) {
-        Ok(s) => s.at,
-        Err(_) => count,
-    }
+    let count = lent.words[COUNT_AT] as usize;
+    let off = records::names_to(lent.records, dir);
+    let at = Spot { at: dir, off };
+    let found = ask_find::child(&lent.records[..count], lent.bytes, at, name, count);
+    Some(found.ok()?.at)
 }
 
-// The record of the entry at the path, which begins with a slash; the number of entries where there is none.
-fn walk(
-    words: &[u64],
-    records: &[u64],
-    heads: &[u64],
-    times: &[i64],
-    paths: &[u8],
-    bytes: &[u8],
-    path: &[u8],
-) -> usize
-    requires { Lawful (lends words.now records.now heads.now times.now paths.now bytes.now) }
-    ensures { result < count (lends words.now records.now heads.now times.now paths.now bytes.now)
-        → pieces path.now ≡ [] ∷ path_at (lends words.now records.now heads.now times.now paths.now bytes.now) result }
+// The record of the entry at the path, which begins with a slash.
+fn walk(lent: Slices, path: &[u8]) -> Option<usize>
+    requires { Lawful (lent_by lent) }
+    ensures { IfSome result (λ i. LedTo (lent_by lent.entry) path.now i) }
 {
+    if lent.words[COUNT_AT] == 0 {
+        return None;
+    }
     let mut i = 0;
     let mut e = 0;
     while e < path.len() {
-        if path[e] != 47 {
-            return words[COUNT_AT] as usize;
+        if path[e] != b'/' {
+            return None;
         }
         let a = e + 1;
         e = piece_end(path, a);
-        i = child(words, records, heads, times, paths, bytes, i, &path[a..e]);
+        i = child(lent, i, &path[a..e])?;
     }
-    i
+    Some(i)
 }
 
-// The slot of the file at the path; the number of slots where there is none.
-fn file_slot(
-    words: &[u64],
-    records: &[u64],
-    heads: &[u64],
-    times: &[i64],
-    paths: &[u8],
-    bytes: &[u8],
-    path: &[u8],
-) -> usize
-    requires { Lawful (lends words.now records.now heads.now times.now paths.now bytes.now) × T (cell_ok path.now) }
-    ensures { result < length heads.now
-        → look (state (lends words.now records.now heads.now times.now paths.now bytes.now)).tree (names path.now) ≡ some (file result) }
+// The slot of the file at the path.
+fn file_slot(lent: Slices, path: &[u8]) -> Option<usize>
+    requires { Lawful (lent_by lent) × T (cell_ok path.now) }
+    ensures { IfSome result (λ k. (k < length lent.entry.heads.now) × (look (state (lent_by lent.entry)).tree (names path.now) ≡ some (file k))) }
 {
-    let i = walk(words, records, heads, times, paths, bytes, path);
-    if words[COUNT_AT] as usize <= i {
-        return heads.len();
-    }
-    let slot = layout::slot_of(records[i]);
-    if layout::kind_of(heads[slot]) != 2 {
-        return heads.len();
-    }
-    slot
+    let i = walk(lent, path)?;
+    let slot = slot_of(lent.records[i]);
+    (kind_of(lent.heads[slot]) == Kind::File.code()).then_some(slot)
 }
 
 pub fn try_open(
@@ -122,10 +91,17 @@ pub fn try_open(
         return false;
     }
     let slots = words[EXTENT_AT] as usize;
-    let slot = file_slot(words, records, &heads[..slots], times, paths, bytes, path);
-    if slots <= slot {
+    let lent = Slices {
+        words,
+        records,
+        heads: &heads[..slots],
+        times,
+        paths,
+        bytes,
+    };
+    let Some(slot) = file_slot(lent, path) else {
         return false;
-    }
+    };
     edit_state::open_number(words, paths, n, slot, pos, path);
     true
 }

@@ -1,5 +1,5 @@
 // What stands in the slot of record i.
-ghost use Rattle.std.specs.Prelude.{◌≡◌, ◌≤◌, ◌<◌, length, get_or};
+ghost use Rattle.std.specs.Prelude.{IfSome, ◌≡◌, ◌≤◌, ◌<◌, length, get_or};
 ghost use Rattle.layout.specs.Numbers.{word_count};
 ghost use Rattle.layout.specs.Fields.{slot_of};
 ghost use Rattle.layout.specs.Lent.{lends};
@@ -7,17 +7,20 @@ ghost use Rattle.layout.specs.Lawful.{Lawful};
 ghost use Rattle.edit_room.specs.Extents.{Roomy};
 
 use crate::asked::{ready, room_for};
+use layout::kind::Kind;
+use layout::slices::Slices;
 use layout::{COUNT_AT, EXTENT_AT, kind_of, len_of, slot_of};
 
-// The slot of record i; the number of slots where no entry has the record.
-fn slot_at(words: &[u64], records: &[u64], slots: usize, i: usize) -> usize
+// The slot of record i, if it is one of so many.
+fn slot_at(words: &[u64], records: &[u64], slots: usize, i: usize) -> Option<usize>
     requires { (length words.now ≡ word_count) × (get_or words.now 2 0 ≤ length records.now) }
-    ensures { result < slots → (i < get_or words.now 2 0) × (result ≡ slot_of (get_or records.now i 0)) }
+    ensures { IfSome result (λ k. (k < slots) × (i < get_or words.now 2 0) × (k ≡ slot_of (get_or records.now i 0))) }
 {
     if words[COUNT_AT] as usize <= i {
-        return slots;
+        return None;
     }
-    slot_of(records[i])
+    let slot = slot_of(records[i]);
+    (slot < slots).then_some(slot)
 }
 
 pub fn try_mode(
@@ -34,10 +37,9 @@ pub fn try_mode(
         return false;
     }
     let slots = words[EXTENT_AT] as usize;
-    let slot = slot_at(words, records, slots, i);
-    if slots <= slot {
+    let Some(slot) = slot_at(words, records, slots, i) else {
         return false;
-    }
+    };
     edit_slot::set_mode(&mut heads[..slots], slot, m);
     true
 }
@@ -57,10 +59,9 @@ pub fn try_times(
         return false;
     }
     let slots = words[EXTENT_AT] as usize;
-    let slot = slot_at(words, records, slots, i);
-    if slots <= slot {
+    let Some(slot) = slot_at(words, records, slots, i) else {
         return false;
-    }
+    };
     edit_slot::set_times(times, slot, a, t);
     true
 }
@@ -80,10 +81,9 @@ pub fn try_some_times(
         return false;
     }
     let slots = words[EXTENT_AT] as usize;
-    let slot = slot_at(words, records, slots, i);
-    if slots <= slot {
+    let Some(slot) = slot_at(words, records, slots, i) else {
         return false;
-    }
+    };
     edit_slot::set_some_times(times, slot, accessed, modified);
     true
 }
@@ -103,24 +103,22 @@ fn contents_exact(
     requires { Lawful (lends words.now records.now heads.old times.old paths.now bytes.old) }
     ensures { Lawful (lends words.now records.now heads.new times.new paths.now bytes.new) }
 {
-    let slot = slot_at(words, records, heads.len(), i);
-    if heads.len() <= slot {
+    let Some(slot) = slot_at(words, records, heads.len(), i) else {
         return false;
-    }
+    };
     let h = heads[slot];
-    if kind_of(h) != 2 {
+    if kind_of(h) != Kind::File.code() {
         return false;
     }
-    if !room_for(
+    let lent = Slices {
         words,
         records,
         heads,
         times,
         paths,
         bytes,
-        len_of(h),
-        text.len(),
-    ) {
+    };
+    if !room_for(lent, len_of(h), text.len()) {
         return false;
     }
     edit_slot::set_contents(heads, times, bytes, slot, text, t);
@@ -186,15 +184,22 @@ fn length_exact(
 ) -> bool
     requires { Lawful (lends words.now records.now heads.old times.now paths.now bytes.old) }
 {
-    let slot = slot_at(words, records, heads.len(), i);
-    if heads.len() <= slot {
+    let Some(slot) = slot_at(words, records, heads.len(), i) else {
         return false;
-    }
+    };
     let h = heads[slot];
-    if kind_of(h) != 2 {
+    if kind_of(h) != Kind::File.code() {
         return false;
     }
-    if !room_for(words, records, heads, times, paths, bytes, len_of(h), n) {
+    let lent = Slices {
+        words,
+        records,
+        heads,
+        times,
+        paths,
+        bytes,
+    };
+    if !room_for(lent, len_of(h), n) {
         return false;
     }
     edit_slot::set_length(heads, bytes, slot, n);

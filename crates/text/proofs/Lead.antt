@@ -120,36 +120,27 @@ second-class b lead h l =
     same→ (leb (class_of (second_of lead).low) c && leb c (class_of (second_of lead).high)) (inside (second_of lead) b)
     (at (second b c) nine (both_right (eq_n (row_after rows b) (asked c)) (every (second b c) 0 nine) (rule b h)) lead l)
 
--- the class of the lowest second octet, as the code has it
-abbrev pub lowest : ℕ → ℕ
-lowest lead = cond (eqb lead 2) 11 (cond (eqb lead 6) 10 9)
-
--- the class of the highest second octet, as the code has it
-abbrev pub highest : ℕ → ℕ
-highest lead = cond (eqb lead 4) 10 (cond (eqb lead 8) 9 11)
+-- the classes of the lowest and the highest second octet, as the code has them
+abbrev pub ends_coded : ℕ → ℕ × ℕ
+ends_coded lead = cond (eqb lead 2) (11, 11) (cond (eqb lead 4) (9, 10) (cond (eqb lead 6) (10, 11) (cond (eqb lead 8) (9, 9) (9, 11))))
 
 -- both are the classes of the range's ends
-ends : ℕ → ℕ → Bool
-ends lead _ = both (eqb (lowest lead) (class_of (second_of lead).low)) (eqb (highest lead) (class_of (second_of lead).high))
+right_ends : ℕ → ℕ → Bool
+right_ends lead _ = both (eqb (ends_coded lead).0 (class_of (second_of lead).low)) (eqb (ends_coded lead).1 (class_of (second_of lead).high))
 
 -- at each class that begins a character
-ends_right : (lead : ℕ) → lead < 9 → T (ends lead (get_or nine lead 0))
-unfolding class_of classes leads place second_of nine ends
-ends_right lead l = at ends nine tt lead l
+ends_right : (lead : ℕ) → lead < 9 → T (right_ends lead (get_or nine lead 0))
+unfolding class_of classes leads place second_of nine right_ends
+ends_right lead l = at right_ends nine tt lead l
 
--- the lowest
-pub low_class : (lead : ℕ) → lead < 9 → class_of (second_of lead).low ≡ lowest lead
-unfolding ends
-low_class lead l =
-    sym (eqb→eq (lowest lead) (class_of (second_of lead).low)
-    (both_left (eqb (lowest lead) (class_of (second_of lead).low)) (eqb (highest lead) (class_of (second_of lead).high)) (ends_right lead l)))
-
--- the highest
-pub high_class : (lead : ℕ) → lead < 9 → class_of (second_of lead).high ≡ highest lead
-unfolding ends
-high_class lead l =
-    sym (eqb→eq (highest lead) (class_of (second_of lead).high)
-    (both_right (eqb (lowest lead) (class_of (second_of lead).low)) (eqb (highest lead) (class_of (second_of lead).high)) (ends_right lead l)))
+-- they are the range's
+pub ends : (lead : ℕ) → lead < 9 → (class_of (second_of lead).low, class_of (second_of lead).high) ≡ ends_coded lead
+unfolding right_ends
+ends lead l =
+    let x : Bool = eqb (ends_coded lead).0 (class_of (second_of lead).low) in
+    let y : Bool = eqb (ends_coded lead).1 (class_of (second_of lead).high) in
+    sym (ap₂ (λ (a b : ℕ). (a, b)) (eqb→eq (ends_coded lead).0 (class_of (second_of lead).low) (both_left x y (ends_right lead l)))
+    (eqb→eq (ends_coded lead).1 (class_of (second_of lead).high) (both_right x y (ends_right lead l))))
 
 -- the octet at a place, as what the text begins with there
 pub starts-at : (r : Range) (rs : List Range) (s : Bytes) (i : ℕ) → i < length s

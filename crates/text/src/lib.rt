@@ -8,6 +8,7 @@ ghost use Rattle.text.specs.Looks.{Plain};
 
 // The classes of bytes. Those that begin a character are numbered as the rows of the RFC's grammar, by the row's length and then by
 // the bytes, so that tests of order tell how many octets follow.
+// kept: numbers and no enum, since the table of 256 byte classes, one load for each byte, is a form that the project asks for.
 const ASCII: u8 = 0; // 01-7F
 
 const TWO: u8 = 1; // C2-DF, of two octets
@@ -45,110 +46,107 @@ const CLASSES: [u8; 256] = *b"\
     \x02\x03\x03\x03\x03\x03\x03\x03\x03\x03\x03\x03\x03\x04\x05\x05\
     \x06\x07\x07\x07\x08\x0c\x0c\x0c\x0c\x0c\x0c\x0c\x0c\x0c\x0c\x0c";
 
-// The class of the octet at `at`. The table is handed on as a reference: a constant that is indexed is copied at every use.
-#[tactic(auto, using(crate::proofs::Lead::table_at))]
-fn class_at(classes: &[u8; 256], s: &[u8], at: usize) -> u8
-    requires { (classes.now ≡ table) × (at < length s.now) }
-    ensures { result ≡ class_of (get_or s.now at 0) }
-{
-    let b = s[at];
-    classes[b as usize]
+// The class of each byte.
+#[derive(Drop)]
+struct Classes {
+    of: [u8; 256],
+    ghost right: { of ≡ table },
 }
 
-// The class of the lowest octet that can be second behind the class `lead`: two rows refuse more octets than a character needs.
-#[tactic(auto, using(crate::proofs::Lead::low_class))]
-fn second_low(lead: u8) -> u8
-    requires { lead < 9 }
-    ensures { result ≡ class_of (second_of lead).low }
-{
-    match lead {
-        E0 => TAIL_A0,
-        F0 => TAIL_90,
-        _ => TAIL_80,
+impl Classes {
+    // The class of the octet at `at`.
+    #[tactic(auto, using(crate::proofs::Lead::table_at))]
+    fn class_at(&self, s: &[u8], at: usize) -> u8
+        requires { at < length s.now }
+        ensures { result ≡ class_of (get_or s.now at 0) }
+    {
+        self.of[s[at] as usize]
     }
-}
 
-// The class of the highest octet that can be second behind the class `lead`: one row refuses surrogates, another what is above 10FFFF.
-#[tactic(auto, using(crate::proofs::Lead::high_class))]
-fn second_high(lead: u8) -> u8
-    requires { lead < 9 }
-    ensures { result ≡ class_of (second_of lead).high }
-{
-    match lead {
-        ED => TAIL_90,
-        F4 => TAIL_80,
-        _ => TAIL_A0,
-    }
-}
-
-// Whether the octet at `at` is there and can be the second of a character that begins with the class `lead`.
-#[tactic(auto, using(crate::proofs::Lead::second_starts, crate::proofs::Lead::second_past))]
-fn second_at(classes: &[u8; 256], s: &[u8], at: usize, lead: u8) -> bool
-    requires { (classes.now ≡ table) × (lead < 9) }
-    ensures { result ≡ starts (second_of lead ∷ []) (drop at s.now) }
-{
-    if s.len() <= at {
-        return false;
-    }
-    let class = class_at(classes, s, at);
-    second_low(lead) <= class && class <= second_high(lead)
-}
-
-// Whether the octet at `at` is there and continues a character: what is second behind the class TWO is any such octet.
-#[tactic(auto, unfolding(crate::specs::Steps::second_of))]
-fn tail_at(classes: &[u8; 256], s: &[u8], at: usize) -> bool
-    requires { classes.now ≡ table }
-    ensures { result ≡ starts (tail ∷ []) (drop at s.now) }
-{
-    second_at(classes, s, at, TWO)
-}
-
-// The length of the character that stands at i, if one does.
-#[tactic(auto, using(crate::proofs::Lead::char_pick))]
-fn char_len(classes: &[u8; 256], s: &[u8], i: usize) -> Option<usize>
-    requires { (classes.now ≡ table) × (i < length s.now) }
-    ensures { result ≡ char_length rows (drop i s.now) }
-{
-    let lead = class_at(classes, s, i);
-    if lead == ASCII {
-        return Some(1);
-    }
-    if F4 < lead {
-        return None;
-    }
-    if !second_at(classes, s, i + 1, lead) {
-        return None;
-    }
-    if lead == TWO {
-        return Some(2);
-    }
-    if !tail_at(classes, s, i + 2) {
-        return None;
-    }
-    if lead < F0 {
-        return Some(3);
-    }
-    if !tail_at(classes, s, i + 3) {
-        return None;
-    }
-    Some(4)
-}
-
-// Whether s is text, character by character.
-#[tactic(auto, using(crate::proofs::Turns::refused, crate::proofs::Turns::over), unfolding(crate::specs::Utf8::text))]
-fn walk(classes: &[u8; 256], s: &[u8]) -> bool
-    requires { classes.now ≡ table }
-    ensures { result ≡ text s.now }
-{
-    let mut i = 0;
-    // kept: a step is as long as the character that stands at i.
-    while i < s.len() {
-        let Some(k) = char_len(classes, s, i) else {
+    // Whether the octet at `at` is there and can be the second of a character that begins with the class `lead`.
+    #[tactic(auto, using(crate::proofs::Lead::second_starts, crate::proofs::Lead::second_past))]
+    fn second_at(&self, s: &[u8], at: usize, lead: u8) -> bool
+        requires { lead < 9 }
+        ensures { result ≡ starts (second_of lead ∷ []) (drop at s.now) }
+    {
+        if s.len() <= at {
             return false;
-        };
-        i += k;
+        }
+        let class = self.class_at(s, at);
+        let (low, high) = second(lead);
+        low <= class && class <= high
     }
-    true
+
+    // Whether the octet at `at` is there and continues a character: what is second behind the class TWO is any such octet.
+    #[tactic(auto, unfolding(crate::specs::Steps::second_of))]
+    fn tail_at(&self, s: &[u8], at: usize) -> bool
+        ensures { result ≡ starts (tail ∷ []) (drop at s.now) }
+    {
+        self.second_at(s, at, TWO)
+    }
+
+    // The length of the character that stands at i, if one does.
+    #[tactic(auto, using(crate::proofs::Lead::char_pick))]
+    fn char_len(&self, s: &[u8], i: usize) -> Option<usize>
+        requires { i < length s.now }
+        ensures { result ≡ char_length rows (drop i s.now) }
+    {
+        let lead = self.class_at(s, i);
+        if lead == ASCII {
+            return Some(1);
+        }
+        if F4 < lead {
+            return None;
+        }
+        if !self.second_at(s, i + 1, lead) {
+            return None;
+        }
+        if lead == TWO {
+            return Some(2);
+        }
+        if !self.tail_at(s, i + 2) {
+            return None;
+        }
+        if lead < F0 {
+            return Some(3);
+        }
+        if !self.tail_at(s, i + 3) {
+            return None;
+        }
+        Some(4)
+    }
+
+    // Whether s is text, character by character.
+    #[tactic(auto, using(crate::proofs::Turns::refused, crate::proofs::Turns::over), unfolding(crate::specs::Utf8::text))]
+    fn walk(&self, s: &[u8]) -> bool
+        ensures { result ≡ text s.now }
+    {
+        let mut i = 0;
+        // kept: a step is as long as the character that stands at i.
+        while i < s.len() {
+            let Some(k) = self.char_len(s, i) else {
+                return false;
+            };
+            i += k;
+        }
+        true
+    }
+}
+
+// The classes of the lowest and the highest octet that can be second behind the class `lead`: two rows refuse more low octets than a
+// character needs, one refuses surrogates, another what is above 10FFFF.
+#[tactic(auto, using(crate::proofs::Lead::ends))]
+fn second(lead: u8) -> (u8, u8)
+    requires { lead < 9 }
+    ensures { result ≡ (class_of (second_of lead).low, class_of (second_of lead).high) }
+{
+    match lead {
+        E0 => (TAIL_A0, TAIL_A0),
+        ED => (TAIL_80, TAIL_90),
+        F0 => (TAIL_90, TAIL_A0),
+        F4 => (TAIL_80, TAIL_80),
+        _ => (TAIL_80, TAIL_A0),
+    }
 }
 
 // Whether every octet is ASCII, and none is zero. The loop has no way out, so that the compiler tests many at a time.
@@ -162,13 +160,14 @@ fn all_plain(s: &[u8]) -> bool
     !seen
 }
 
-// Whether s is text. Most text is ASCII, which a look tells. The table is copied here, once and not at every octet.
+// Whether s is text. Most text is ASCII, which a look tells. The table is copied here, once and not at every octet: a constant that is
+// indexed is copied at every use.
 pub fn text_ok(s: &[u8]) -> bool
     ensures { result ≡ text s.now }
 {
     if all_plain(s) {
         return true;
     }
-    let classes = CLASSES;
-    walk(&classes, s)
+    let classes = Classes { of: CLASSES };
+    classes.walk(s)
 }

@@ -13,7 +13,7 @@ count-requires-clause-fits c = let b = c.below.result in inl (omega (arith, b.fi
 
 pub returns : goal.returns
 returns c =
-    λ st e n l p a.
+    λ st e l p a.
     let s = c.args.spot in
     count_from_yields_List _ _ c.count.ensures.ran (YieldsList-from_first (λ x. x) left_in _ c.below.ensures)
-    ∙ ap length (by_records st l s p a c.args.records.now c.args.count e n) ∙ count-told st l s p a
+    ∙ ap length (by_records st l s p a c.args.records.now e) ∙ count-told st l s p a

@@ -10,9 +10,9 @@ use Rattle.ask_list.proofs.first.Goals as goal
 
 pub returns : goal.returns
 returns c =
-    λ st e n l p a.
+    λ st e l p a.
     let s = c.args.spot in
     let m : c.map.result ≡ option_map (λ (x : Entry). x.spot) c.next.result = search rules in
-    let z = c.below.ensures ∙ by_records st l s p a c.args.records.now c.args.count e n in
+    let z = c.below.ensures ∙ by_records st l s p a c.args.records.now e in
     let y = subst (Leading st l p (listing_of st p)) (sym z) (leads-below st l s p a) in
     subst (Rest st p (listing_of st p)) (sym m) (rest_by st l p (listing_of st p) (left_in c.below.result) (left_in c.next.new.self) c.next.result y c.next.ensures.steps)

@@ -17,7 +17,7 @@ sum-requires-clause-fits c =
 
 pub returns : goal.returns
 returns c =
-    λ st e n l p a.
+    λ st e l p a.
     let s = c.args.spot in
     sum_by_from_yields_List text_size _ _ _ c.sum.ensures.ran (YieldsList-from_map _ text_size (YieldsList-at c.map.ensures.source (YieldsList-from_first (λ x. x) left_in _ c.below.ensures)) c.map.ensures.closure (λ x r q k. search rules))
-    ∙ ap (sum_by text_size) (by_records st l s p a c.args.records.now c.args.count e n) ∙ length-told st l s p a
+    ∙ ap (sum_by text_size) (by_records st l s p a c.args.records.now e) ∙ length-told st l s p a

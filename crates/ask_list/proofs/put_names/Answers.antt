@@ -15,7 +15,7 @@ pub loop-entry-init : goal.loop-entry-init
 loop-entry-init c =
     let g = c.args in
     let e = ap left_in c.into_iter-entry-iterator.ensures.into_iter_gives ∙ c.below-entry-items.ensures in
-    (tt, tt, rw e (whole-fits g.records.now g.bytes.now g.count g.spot c.requires.held), rw e (written_start g.out.now (whole g.records.now g.bytes.now g.count g.spot)))
+    (tt, tt, rw e (whole-fits g.records.now g.bytes.now g.spot c.requires.held), rw e (written_start g.out.now (whole g.records.now g.bytes.now g.spot)))
 
 -- the text of the entry of this turn, and of those behind it
 more : (c : In-Some) → let b = c.args.bytes.now in text_of b (left_in c.loop-entry.entry-iterator) ≡ name_in b c.in-Some.entry ++ (0 ∷ text_of b (left_in c.next.new.self))
@@ -38,7 +38,7 @@ put_name-requires c =
       ap (λ (m : ℕ). length (take m (drop x.spot.off b))) z,
       ap length (more i),
       length-append (name_in b x) (0 ∷ text_of b (left_in c.next.new.self)),
-      written-room g.out.now (whole g.records.now b g.count g.spot) l.out l.k (text_of b (left_in l.entry-iterator)) (whole-room g.records.now b g.count g.spot g.out.now c.requires) l.invariant.3,
+      written-room g.out.now (whole g.records.now b g.spot) l.out l.k (text_of b (left_in l.entry-iterator)) (whole-room g.records.now b g.spot g.out.now c.requires) l.invariant.3,
     )
 
 pub loop-entry-preserved : goal.loop-entry-preserved
@@ -48,22 +48,22 @@ loop-entry-preserved c =
     let l = c.loop-entry in
     let x = c.in-Some.entry in
     let i = (goal.at.loop-entry-preserved c).In-Some in
-    let u = whole g.records.now b g.count g.spot in
+    let u = whole g.records.now b g.spot in
     let z : x.spot.off + c.from-n.result - x.spot.off ≡ x.size = omega (arith, c.from-n.ensures) in (
       tt,
       tt,
       (within i).1,
       written_next g.out.now u l.out l.k (name_in b x) (take (x.spot.off + c.from-n.result - x.spot.off) (drop x.spot.off b)) (text_of b (left_in c.next.new.self)) c.put_name.new.out c.from-n.result
-          (whole-room g.records.now b g.count g.spot g.out.now c.requires) (ap (λ (m : ℕ). take m (drop x.spot.off b)) z) c.put_name.ensures (c.from-n.ensures ∙ sym (name-long b x (within i).0))
+          (whole-room g.records.now b g.spot g.out.now c.requires) (ap (λ (m : ℕ). take m (drop x.spot.off b)) z) c.put_name.ensures (c.from-n.ensures ∙ sym (name-long b x (within i).0))
           (written_same g.out.now u l.out l.k (text_of b (left_in l.entry-iterator)) _ (more i) l.invariant.3),
     )
 
 pub returns : goal.returns
 returns c =
-    λ st e n l p a f.
+    λ st e l p a f.
     let g = c.args in
     let b = g.bytes.now in
     let v = c.loop-entry in
-    let u = whole g.records.now b g.count g.spot in
+    let u = whole g.records.now b g.spot in
     written-end g.out.now u v.out v.k (written_same g.out.now u v.out v.k (text_of b (left_in v.entry-iterator)) [] (ap (text_of b) c.in-None.ensures.steps.0 ∙ text-end b) v.invariant.3)
-    ∙ ap (λ t. in_front t g.out.now) (whole-told g.records.now b g.count g.spot st l p a e n f)
+    ∙ ap (λ t. in_front t g.out.now) (whole-told g.records.now b g.spot st l p a e f)

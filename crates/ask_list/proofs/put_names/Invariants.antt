@@ -11,4 +11,4 @@ abbrev pub invariant-loop-entry : goal.invariant-loop-entry
 invariant-loop-entry l =
     (goal.iterator-loop-entry).can_next l.entry-iterator × (goal.iterator-loop-entry).is_finite l.entry-iterator
     × Fits l.bytes (left_in l.entry-iterator)
-    × Written l.initial.out (text_of l.bytes (entries_behind l.records l.count l.fn.spot (depth_of (get_or l.records l.fn.spot.at 0) + 1))) l.out l.k (text_of l.bytes (left_in l.entry-iterator))
+    × Written l.initial.out (text_of l.bytes (entries_behind l.records l.fn.spot (depth_of (get_or l.records l.fn.spot.at 0) + 1))) l.out l.k (text_of l.bytes (left_in l.entry-iterator))

@@ -1,8 +1,6 @@
 -- `close_number` meets its contract. Assumes nothing.
 use mathlib.Core.Path.{◌∙◌, sym}
-use native.Mathlib.Omega.{arith}
-use Rattle.layout.proofs.Entered.{stood}
-use Rattle.edit_state.proofs.Closing.{close-held, close-named, close-freed, same_count}
+use Rattle.edit_state.proofs.Closing.{close-held, close-named, close-freed}
 use Rattle.edit_state.proofs.close_number.Goals as goal
 
 pub returns-then-is_held : goal.returns-then-is_held

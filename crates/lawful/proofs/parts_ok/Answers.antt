@@ -10,5 +10,5 @@ use Rattle.lawful.proofs.parts_ok.Goals as goal
 
 pub slots_held-requires : goal.slots_held-requires
 slots_held-requires c =
-    let a = c.args in
-    (c.requires.0, c.requires.2, rows_within (kind_in a.heads.now) (length a.heads.now) a.recs.now a.bytes.now (subst T c.if-not-entries_ok.ensures tt), kept-stand a.words.now a.paths.now (length a.heads.now) c.requires.2 c.if-not-kept_ok.ensures, omega arith, omega arith)
+    let a = c.args.cut in
+    (c.requires.0, c.requires.2, rows_within (kind_in a.heads.now) (length a.heads.now) a.records.now a.bytes.now (subst T c.if-not-entries_ok.ensures tt), kept-stand a.words.now a.paths.now (length a.heads.now) c.requires.2 c.if-not-kept_ok.ensures, omega arith, omega arith)

@@ -1,13 +1,13 @@
 -- `bare` meets its contract: the store answers as each state that it shows.
 -- Assumes nothing.
-use mathlib.Core.Path.{refl, sym, ◌∙◌}
+use mathlib.Core.Path.{sym, ◌∙◌}
 use Rattle.model.specs.Prog.{bare?}
-use Rattle.edit_room.specs.Extents.{trim}
 use Rattle.store.proofs.Asked.{told}
+use Rattle.store.proofs.Listed.{placed}
 use Rattle.store.proofs.bare.Goals as goal
 
 pub is_bare-requires : goal.is_bare-requires
-is_bare-requires c = let p = c.requires in (_, record { store = trim _; path = p.2; records = refl; bytes = refl; counted = refl; lawful = p.3.roomy.lawful; at = p.4 })
+is_bare-requires c = rw c.live.ensures (placed c.args.words.now c.args.records.now c.args.spot c.requires)
 
 pub returns : goal.returns
-returns c = λ st s h p a. sym (told _ s h (bare? p)) ∙ sym (c.is_bare.ensures _ refl refl h.roomy.lawful p a)
+returns c = λ st s h p a. sym (told _ s h (bare? p)) ∙ sym (c.is_bare.ensures _ (sym c.live.ensures) h.roomy.lawful p a)

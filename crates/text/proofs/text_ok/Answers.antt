@@ -8,6 +8,6 @@ use Rattle.text.proofs.text_ok.Goals as goal
 pub returns-then-all_plain : goal.returns-then-all_plain
 returns-then-all_plain c = sym (plain-text _ (c.all_plain.ensures c.if-all_plain.true))
 
-pub walk-requires : goal.walk-requires
+pub invariant_of-classes : goal.invariant_of-classes
 unfolding table tabulate class_of classes leads place
-walk-requires c = refl
+invariant_of-classes c = record { right = refl }

@@ -4,8 +4,8 @@ use Rattle.path.specs.Backward.{part}
 use Rattle.path.proofs.Following.{plain-between}
 use Rattle.path_scan.proofs.plain.find_plain.Goals as goal
 
-pub returns-in-Some : goal.returns-in-Some
-returns-in-Some c =
+pub returns-in-Some-clause-plain : goal.returns-in-Some-clause-plain
+returns-in-Some-clause-plain c =
     let start = c.text_start-start in
     let end = c.text_end-end in
     let names : c.in-Some.names.now ≡ part start.result end.result c.args.s.now = search rules in

@@ -1,6 +1,6 @@
 -- `names_length` meets its contract: the store lists what each state lists.
 -- Assumes nothing.
-use mathlib.Core.Path.{refl, ap, ◌∙◌}
+use mathlib.Core.Path.{sym, ap, ◌∙◌}
 use mathlib.Core.List.{List}
 use lib.ListN.{length}
 use Rattle.path.specs.Path.{Name}
@@ -10,7 +10,7 @@ use Rattle.store.proofs.Listed.{placed, listed-told}
 use Rattle.store.proofs.listing.names_length.Goals as goal
 
 pub names_length-requires : goal.names_length-requires
-names_length-requires c = placed c.args.words.now c.args.records.now c.args.spot c.requires
+names_length-requires c = rw c.live.ensures (placed c.args.words.now c.args.records.now c.args.spot c.requires)
 
 pub returns : goal.returns
-returns c = λ st s h p a. c.names_length.ensures _ refl refl h.roomy.lawful p a ∙ ap (λ (l : List (Name × Stat)). length (names_text l)) (listed-told h p)
+returns c = λ st s h p a. c.names_length.ensures _ (sym c.live.ensures) h.roomy.lawful p a ∙ ap (λ (l : List (Name × Stat)). length (names_text l)) (listed-told h p)

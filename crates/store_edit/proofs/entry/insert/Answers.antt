@@ -4,11 +4,9 @@ use mathlib.Core.List.{[], ◌∷◌, ◌++◌}
 use mathlib.Core.Path.{refl, sym}
 use native.Mathlib.Omega.{arith}
 use lib.Seq.{length-take-le}
-use Rattle.layout.specs.Lent.{◌∘◌, with_heads}
-use Rattle.edit_entry.specs.Lent.{with_entries}
 use Rattle.edit_entry.specs.Made.{insertion}
 use Rattle.edit_room.proofs.Parting.{part_within}
-use Rattle.store_edit.proofs.Carrying.{shows_whole, shows-resized, shows-released, roomy_of}
+use Rattle.store_edit.proofs.Carrying.{shown, shows_whole, shows-resized, shows-released, roomy_of}
 use Rattle.store_edit.proofs.Inserting.{insert-may, stands-new}
 use Rattle.store_edit.proofs.Resizing.{stands-released}
 use Rattle.store_edit.proofs.entry.insert.Goals as goal
@@ -17,41 +15,35 @@ pub reserve-requires : goal.reserve-requires
 reserve-requires c = roomy_of c.requires.0.2.roomy
 
 pub slice_bounds-insert_entry-end : goal.slice_bounds-insert_entry-end
-slice_bounds-insert_entry-end c = let q = c.requires.0 in part_within _ (c.reserve.ensures ((with_entries c.args.l ∘ with_heads c.args.heads.now) q.0) q.2.roomy).resized.roomy
+slice_bounds-insert_entry-end c = part_within _ (c.reserve.ensures (shown c.requires.0.2) c.requires.0.2.roomy).resized.roomy
 
 pub slice_bounds-insert_entry-end-2 : goal.slice_bounds-insert_entry-end-2
-slice_bounds-insert_entry-end-2 c =
-    let q = c.requires.0 in
-    sym (length-take-le _ _ (part_within _ (c.reserve.ensures ((with_entries c.args.l ∘ with_heads c.args.heads.now) q.0) q.2.roomy).resized.roomy))
+slice_bounds-insert_entry-end-2 c = sym (length-take-le _ _ (part_within _ (c.reserve.ensures (shown c.requires.0.2) c.requires.0.2.roomy).resized.roomy))
 
 pub insert_entry-requires : goal.insert_entry-requires
 insert_entry-requires c =
     let q = c.requires in
-    let u = (with_entries c.args.l ∘ with_heads c.args.heads.now) q.0.0 in
-    let r = c.reserve.ensures u q.0.2.roomy in
-    (u, r.resized.roomy.lawful, (q.0.3.0, insert-may q.0.2 r refl refl c.args.made c.args.new q.1 q.2 q.0.3.1))
+    let r = c.reserve.ensures (shown q.0.2) q.0.2.roomy in
+    (q.0.0, r.resized.roomy.lawful, (q.0.3.0, insert-may q.0.2 r refl refl c.args.made c.args.new q.1 q.2 q.0.3.1))
 
 pub release-requires : goal.release-requires
 release-requires c =
     let q = c.requires in
     let g = c.args in
-    let u = (with_entries g.l ∘ with_heads g.heads.now) q.0.0 in
-    let r = c.reserve.ensures u q.0.2.roomy in
+    let r = c.reserve.ensures (shown q.0.2) q.0.2.roomy in
     let x = c.insert_entry in
-    let z = x.ensures u r.resized.roomy.lawful q.0.3.0 (insert-may q.0.2 r refl refl c.args.made c.args.new q.1 q.2 q.0.3.1) in
-    roomy_of (shows_whole (insertion g.made g.new (q.0.3.0 ++ (g.name.now ∷ [])) ∷ []) _ _ _ (shows-resized q.0.2 r.resized) z.spells x.auto.heads (omega arith)).roomy
+    let z = x.ensures q.0.0 r.resized.roomy.lawful q.0.3.0 (insert-may q.0.2 r refl refl g.made g.new q.1 q.2 q.0.3.1) in
+    roomy_of (shows_whole (insertion g.made g.new (q.0.3.0 ++ (g.name.now ∷ [])) ∷ []) (shows-resized q.0.2 r.resized) z.spells x.auto.heads (omega arith)).roomy
 
 pub returns : goal.returns
-returns c =
-    λ st s d h f.
+returns c st s d h f =
     let g = c.args in
     let q = c.requires in
-    let u = (with_entries g.l ∘ with_heads g.heads.now) st in
-    let r = c.reserve.ensures u h.roomy in
-    let m = insert-may h r refl refl c.args.made c.args.new q.1 q.2 f in
+    let r = c.reserve.ensures (shown h) h.roomy in
+    let m = insert-may h r refl refl g.made g.new q.1 q.2 f in
     let x = c.insert_entry in
-    let z = x.ensures u r.resized.roomy.lawful d m in
-    let k = shows_whole (insertion g.made g.new (d ++ (g.name.now ∷ [])) ∷ []) _ _ _ (shows-resized h r.resized) z.spells x.auto.heads (omega arith) in
+    let z = x.ensures st r.resized.roomy.lawful d m in
+    let k = shows_whole (insertion g.made g.new (d ++ (g.name.now ∷ [])) ∷ []) (shows-resized h r.resized) z.spells x.auto.heads (omega arith) in
     record {
       shows = shows-released k c.release.ensures;
       stands = stands-released k.roomy c.release.ensures _ _ (stands-new h r refl refl g.gap f.free.vacant m z);

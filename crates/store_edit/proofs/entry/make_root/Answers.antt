@@ -5,11 +5,9 @@ use mathlib.Core.Path.{sym}
 use native.Mathlib.Omega.{arith}
 use lib.Seq.{length-take-le}
 use Rattle.model.specs.Prog.{make}
-use Rattle.layout.specs.Lent.{◌∘◌, with_heads}
-use Rattle.edit_entry.specs.Lent.{with_entries}
 use Rattle.edit_entry.specs.Made.{fresh_meta}
 use Rattle.edit_room.proofs.Parting.{part_within}
-use Rattle.store_edit.proofs.Carrying.{shows_whole, shows-resized, shows-released, roomy_of}
+use Rattle.store_edit.proofs.Carrying.{shown, shows_whole, shows-resized, shows-released, roomy_of}
 use Rattle.store_edit.proofs.Resizing.{stands-released}
 use Rattle.store_edit.proofs.Rooting.{root-may, stands-root}
 use Rattle.store_edit.proofs.entry.make_root.Goals as goal
@@ -18,40 +16,32 @@ pub reserve-requires : goal.reserve-requires
 reserve-requires c = roomy_of c.requires.2.roomy
 
 pub slice_bounds-insert_root-end : goal.slice_bounds-insert_root-end
-slice_bounds-insert_root-end c = let q = c.requires in part_within _ (c.reserve.ensures ((with_entries c.args.l ∘ with_heads c.args.heads.now) q.0) q.2.roomy).resized.roomy
+slice_bounds-insert_root-end c = part_within _ (c.reserve.ensures (shown c.requires.2) c.requires.2.roomy).resized.roomy
 
 pub slice_bounds-insert_root-end-2 : goal.slice_bounds-insert_root-end-2
-slice_bounds-insert_root-end-2 c =
-    let q = c.requires in
-    sym (length-take-le _ _ (part_within _ (c.reserve.ensures ((with_entries c.args.l ∘ with_heads c.args.heads.now) q.0) q.2.roomy).resized.roomy))
+slice_bounds-insert_root-end-2 c = sym (length-take-le _ _ (part_within _ (c.reserve.ensures (shown c.requires.2) c.requires.2.roomy).resized.roomy))
 
 pub insert_root-requires : goal.insert_root-requires
 insert_root-requires c =
     let q = c.requires in
-    let u = (with_entries c.args.l ∘ with_heads c.args.heads.now) q.0 in
-    let r = c.reserve.ensures u q.2.roomy in
-    (u, r.resized.roomy.lawful, root-may q.2 r (fresh_meta c.args.new) q.3)
+    let r = c.reserve.ensures (shown q.2) q.2.roomy in
+    (q.0, r.resized.roomy.lawful, root-may q.2 r (fresh_meta c.args.new) q.3)
 
 pub release-requires : goal.release-requires
 release-requires c =
     let q = c.requires in
-    let g = c.args in
-    let u = (with_entries g.l ∘ with_heads g.heads.now) q.0 in
-    let r = c.reserve.ensures u q.2.roomy in
+    let r = c.reserve.ensures (shown q.2) q.2.roomy in
     let x = c.insert_root in
-    roomy_of (shows_whole (make [] (fresh_meta g.new) ∷ []) _ _ _ (shows-resized q.2 r.resized) (x.ensures u r.resized.roomy.lawful) x.auto.heads (omega arith)).roomy
+    roomy_of (shows_whole (make [] (fresh_meta c.args.new) ∷ []) (shows-resized q.2 r.resized) (x.ensures q.0 r.resized.roomy.lawful) x.auto.heads (omega arith)).roomy
 
 pub returns : goal.returns
-returns c =
-    λ st s h f.
-    let g = c.args in
-    let u = (with_entries g.l ∘ with_heads g.heads.now) st in
-    let r = c.reserve.ensures u h.roomy in
+returns c st s h f =
+    let r = c.reserve.ensures (shown h) h.roomy in
     let w = shows-resized h r.resized in
     let x = c.insert_root in
-    let z = x.ensures u r.resized.roomy.lawful in
-    let k = shows_whole (make [] (fresh_meta g.new) ∷ []) _ _ _ w z x.auto.heads (omega arith) in
+    let z = x.ensures st r.resized.roomy.lawful in
+    let k = shows_whole (make [] (fresh_meta c.args.new) ∷ []) w z x.auto.heads (omega arith) in
     record {
       shows = shows-released k c.release.ensures;
-      stands = stands-released k.roomy c.release.ensures _ _ (stands-root w g.new z);
+      stands = stands-released k.roomy c.release.ensures _ _ (stands-root w c.args.new z);
     }

@@ -4,33 +4,23 @@ use mathlib.Core.List.{[], ◌∷◌}
 use mathlib.Core.Path.{refl}
 use native.Mathlib.Omega.{arith}
 use Rattle.model.specs.Prog.{close}
-use Rattle.layout.specs.Lent.{◌∘◌, with_words, with_records, with_heads, with_bytes}
-use Rattle.edit_room.specs.Extents.{trim}
-use Rattle.store_edit.proofs.Carrying.{shows_whole, shows-released, roomy_of}
+use Rattle.store_edit.proofs.Carrying.{trimmed, shows_whole, shows-released, roomy_of}
 use Rattle.store_edit.proofs.Entering.{open_at}
 use Rattle.store_edit.proofs.number.close.Goals as goal
 
 pub close_number-requires : goal.close_number-requires
 close_number-requires c =
     let q = c.requires in
-    let g = c.args in
-    let u = (with_words g.words.now ∘ with_records g.records.now ∘ with_heads g.heads.now ∘ with_bytes g.bytes.now) q.0 in
-    let o = open_at u q.1 q.2 g.n q.3 in
-    (trim u, q.2.roomy.lawful, record { low = o.0; on = λ e. omega (arith, e, o.1.one) })
+    let o = open_at _ _ q.2 _ q.3 in
+    (trimmed q.2, q.2.roomy.lawful, record { low = o.0; on = λ e. omega (arith, e, o.1.one) })
 
 pub release-requires : goal.release-requires
 release-requires c =
     let q = c.requires in
-    let g = c.args in
-    let u = (with_words g.words.now ∘ with_records g.records.now ∘ with_heads g.heads.now ∘ with_bytes g.bytes.now) q.0 in
     let x = c.close_number in
-    roomy_of (shows_whole (close g.n ∷ []) u _ q.1 q.2 (x.ensures (trim u) q.2.roomy.lawful) x.auto.heads refl).roomy
+    roomy_of (shows_whole (close c.args.n ∷ []) q.2 (x.ensures (trimmed q.2) q.2.roomy.lawful) x.auto.heads refl).roomy
 
 pub returns : goal.returns
-returns c =
-    λ st s h o.
-    let g = c.args in
-    let u = (with_words g.words.now ∘ with_records g.records.now ∘ with_heads g.heads.now ∘ with_bytes g.bytes.now) st in
+returns c st s h o =
     let x = c.close_number in
-    let k = shows_whole (close g.n ∷ []) u _ s h (x.ensures (trim u) h.roomy.lawful) x.auto.heads refl in
-    shows-released k c.release.ensures
+    shows-released (shows_whole (close c.args.n ∷ []) h (x.ensures (trimmed h) h.roomy.lawful) x.auto.heads refl) c.release.ensures

@@ -6,20 +6,13 @@ use native.Mathlib.Omega.{arith}
 use Rattle.model.specs.Tree.{touch_some}
 use Rattle.model.specs.Prog.{change_held}
 use Rattle.edit_slot.specs.Times.{in_model}
-use Rattle.layout.specs.Lent.{◌∘◌, with_words, with_times}
-use Rattle.edit_room.specs.Extents.{trim}
-use Rattle.store_edit.proofs.Carrying.{shows_same}
+use Rattle.store_edit.proofs.Carrying.{trimmed, shows_same}
 use Rattle.store_edit.proofs.Entering.{open_at}
 use Rattle.store_edit.proofs.number.touch_held.Goals as goal
 
-pub set_some_times-requires : goal.set_some_times-requires
-set_some_times-requires c = let q = c.requires in let l = q.2.roomy.lawful in omega (arith, c.held_slot.ensures.1, (open_at _ _ q.2 _ q.3).1.low, l.exact.heads, l.exact.times, l.slotted)
-
 pub returns : goal.returns
-returns c =
-    λ st s h o.
+returns c st s h o =
     let g = c.args in
-    let u = (with_words g.words.now ∘ with_times g.times.now) st in
     let k = c.held_slot.ensures in
-    let x = c.set_some_times.ensures (trim u) h.roomy.lawful (omega (arith, k.1, (open_at u s h g.n o).1.low)) in
-    shows_same (change_held g.n (touch_some (in_model g.accessed) (in_model g.modified)) ∷ []) u _ s h (x.by_number g.n k.0 k.1) refl refl
+    let x = c.set_some_times.ensures (trimmed h) h.roomy.lawful (omega (arith, k.1, (open_at _ s h g.n o).1.low)) in
+    shows_same (change_held g.n (touch_some (in_model g.accessed) (in_model g.modified)) ∷ []) h (x.by_number g.n k.0 k.1) refl refl

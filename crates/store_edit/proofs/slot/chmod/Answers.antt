@@ -5,18 +5,14 @@ use mathlib.Core.Path.{refl}
 use native.Mathlib.Omega.{arith}
 use Rattle.model.specs.Tree.{chmod}
 use Rattle.model.specs.Prog.{change}
-use Rattle.layout.specs.Lent.{◌∘◌, with_words, with_records, with_heads}
-use Rattle.edit_room.specs.Extents.{trim}
-use Rattle.store_edit.proofs.Carrying.{shows_whole}
+use Rattle.store_edit.proofs.Carrying.{trimmed, shows_whole}
 use Rattle.store_edit.proofs.Entering.{spot-slot, spot_has}
 use Rattle.store_edit.proofs.slot.chmod.Goals as goal
 
 pub set_mode-requires : goal.set_mode-requires
-set_mode-requires c = let q = c.requires in omega (arith, c.slot_of-slot.ensures, spot-slot _ q.1 q.3 _ q.2 q.4)
+set_mode-requires c = let q = c.requires in omega (arith, c.slot_of-slot.ensures, spot-slot q.3 q.4)
 
 pub returns : goal.returns
-returns c =
-    λ st s p h a.
-    let g = c.args in
-    let u = (with_words g.words.now ∘ with_records g.records.now ∘ with_heads g.heads.now) st in
-    shows_whole (change p (chmod g.m) ∷ []) u _ s h ((c.set_mode.ensures (trim u) h.roomy.lawful).by_name p (spot_has u s h g.spot p a _ c.slot_of-slot.ensures)) c.set_mode.auto.heads refl
+returns c st s p h a =
+    let x = c.set_mode in
+    shows_whole (change p (chmod c.args.m) ∷ []) h ((x.ensures (trimmed h) h.roomy.lawful).by_name p (spot_has h a c.slot_of-slot.ensures)) x.auto.heads refl

@@ -4,14 +4,8 @@ use mathlib.Core.List.{[], ◌∷◌}
 use mathlib.Core.Path.{refl}
 use Rattle.path.specs.Path.{names}
 use Rattle.model.specs.Prog.{go}
-use Rattle.layout.specs.Lent.{◌∘◌, with_words, with_paths}
-use Rattle.edit_room.specs.Extents.{trim}
-use Rattle.store_edit.proofs.Carrying.{shows_same}
+use Rattle.store_edit.proofs.Carrying.{trimmed, shows_same}
 use Rattle.store_edit.proofs.state.go.Goals as goal
 
 pub returns : goal.returns
-returns c =
-    λ st s h.
-    let g = c.args in
-    let u = (with_words g.words.now ∘ with_paths g.paths.now) st in
-    shows_same (go (names g.path.now) ∷ []) u _ s h (c.set_current.ensures (trim u) h.roomy.lawful) refl refl
+returns c st s h = shows_same (go (names c.args.path.now) ∷ []) h (c.set_current.ensures (trimmed h) h.roomy.lawful) refl refl

@@ -1,37 +1,36 @@
 -- `insert_in` meets its contract: a slot is reserved, and what is left is a store.
 -- Assumes nothing.
+use mathlib.Core.List.{[]}
 use mathlib.Core.Path.{refl, sym}
 use native.Mathlib.Omega.{arith}
+use lib.Seq.{length-take-le}
 use Rattle.edit_room.proofs.Parting.{part-back, part_within}
 use Rattle.layout.specs.Store.{lent}
-use mathlib.Core.List.{[]}
-use lib.Seq.{length-take-le}
+use Rattle.test_tried.proofs.Asking.{stored}
 use Rattle.test_tried.proofs.entry.insert_in.Goals as goal
 
 pub reserve-requires : goal.reserve-requires
-reserve-requires c = (lent c.args.words.now c.args.records.now c.args.heads.now c.args.times.now c.args.paths.now c.args.bytes.now, c.requires)
+reserve-requires c = (stored c.requires, c.requires)
 
 pub slice_bounds-insert_exact-end : goal.slice_bounds-insert_exact-end
-slice_bounds-insert_exact-end c = part_within _ (c.reserve.ensures (lent c.args.words.now c.args.records.now c.args.heads.now c.args.times.now c.args.paths.now c.args.bytes.now) c.requires).resized.roomy
+slice_bounds-insert_exact-end c = part_within _ (c.reserve.ensures (stored c.requires) c.requires).resized.roomy
 
 pub slice_bounds-insert_exact-end-2 : goal.slice_bounds-insert_exact-end-2
-slice_bounds-insert_exact-end-2 c = sym (length-take-le _ _ (part_within _ (c.reserve.ensures (lent c.args.words.now c.args.records.now c.args.heads.now c.args.times.now c.args.paths.now c.args.bytes.now) c.requires).resized.roomy))
+slice_bounds-insert_exact-end-2 c = sym (length-take-le _ _ (part_within _ (c.reserve.ensures (stored c.requires) c.requires).resized.roomy))
 
 pub insert_exact-done-requires : goal.insert_exact-done-requires
-insert_exact-done-requires c = let v = c.reserve.ensures (lent c.args.words.now c.args.records.now c.args.heads.now c.args.times.now c.args.paths.now c.args.bytes.now) c.requires in (v.resized.roomy.lawful, λ h. v.free (omega (arith, h, v.resized.words 2 (λ e. omega arith), v.resized.words 0 (λ e. omega arith))))
+insert_exact-done-requires c =
+    let v = c.reserve.ensures (stored c.requires) c.requires in
+    (v.resized.roomy.lawful, λ h. v.free (omega (arith, h, v.resized.words 2 (λ e. omega arith), v.resized.words 0 (λ e. omega arith))))
 
 pub release-requires : goal.release-requires
 release-requires c =
-    let a = c.args in
-    let v = c.reserve.ensures (lent c.args.words.now c.args.records.now c.args.heads.now c.args.times.now c.args.paths.now c.args.bytes.now) c.requires in
+    let v = c.reserve.ensures (stored c.requires) c.requires in
     let x = c.insert_exact-done in
-    let u = lent [] x.new.records [] x.new.times a.paths.now x.new.bytes in
-    (u, (part-back _ _ _ _ _ _ _ _ _ _ _ _ _ v.resized.roomy refl x.auto.heads x.auto.records x.ensures))
+    (lent [] x.new.records [] x.new.times c.args.paths.now x.new.bytes, part-back _ _ _ _ _ _ _ _ _ _ _ _ _ v.resized.roomy refl x.auto.heads x.auto.records x.ensures)
 
 pub returns : goal.returns
 returns c =
-    let a = c.args in
-    let v = c.reserve.ensures (lent c.args.words.now c.args.records.now c.args.heads.now c.args.times.now c.args.paths.now c.args.bytes.now) c.requires in
+    let v = c.reserve.ensures (stored c.requires) c.requires in
     let x = c.insert_exact-done in
-    let u = lent [] x.new.records [] x.new.times a.paths.now x.new.bytes in
-    (c.release.ensures u (part-back _ _ _ _ _ _ _ _ _ _ _ _ _ v.resized.roomy refl x.auto.heads x.auto.records x.ensures)).resized.roomy
+    (c.release.ensures (lent [] x.new.records [] x.new.times c.args.paths.now x.new.bytes) (part-back _ _ _ _ _ _ _ _ _ _ _ _ _ v.resized.roomy refl x.auto.heads x.auto.records x.ensures)).resized.roomy

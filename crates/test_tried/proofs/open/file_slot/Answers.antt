@@ -2,29 +2,20 @@
 -- Assumes nothing.
 use mathlib.Core.Path.{sym, ◌∙◌}
 use native.Mathlib.Omega.{arith}
-use Rattle.layout.specs.Store.{lent}
+use borrow.Author.Tests.{eqb-true}
+use Rattle.layout.specs.Lent.{lent_by}
 use Rattle.ask_find.proofs.Records.{slot-low}
-use Rattle.test_tried.proofs.Walked.{file_at_lem}
+use Rattle.test_tried.proofs.Walked.{if-file, file_at_lem}
 use Rattle.test_tried.proofs.open.file_slot.Goals as goal
 
-pub returns-then-words-i : goal.returns-then-words-i
-returns-then-words-i c = λ h. absurd (omega (arith, h))
-
-pub offset_bounds-heads-slot : goal.offset_bounds-heads-slot
-offset_bounds-heads-slot c =
-    let b = c in let a = b.args in let st = lent a.words.now a.records.now a.heads.now a.times.now a.paths.now a.bytes.now in let l = b.requires.0 in
-    omega (arith, slot-low st l c.walk-i.result (omega (arith, c.if-words-i.false)), c.slot_of-slot.ensures, l.exact.heads, l.slotted, l.entry_limit.1)
-
-pub bounds-heads-slot : goal.bounds-heads-slot
-bounds-heads-slot c =
-    let b = c in let a = b.args in let st = lent a.words.now a.records.now a.heads.now a.times.now a.paths.now a.bytes.now in
-    omega (arith, slot-low st b.requires.0 c.walk-i.result (omega (arith, c.if-words-i.false)), c.slot_of-slot.ensures)
-
-pub returns-then-kind_of-ne2 : goal.returns-then-kind_of-ne2
-returns-then-kind_of-ne2 c = λ h. absurd (omega (arith, h))
+pub bounds-lent-slot : goal.bounds-lent-slot
+bounds-lent-slot c = omega (arith, slot-low (lent_by c.args.lent) c.requires.0 c.in_ok-i.i c.in_ok-i.ensures.within, c.slot_of-slot.ensures)
 
 pub returns : goal.returns
 returns c =
-    λ h. let b = c in let a = b.args in let st = lent a.words.now a.records.now a.heads.now a.times.now a.paths.now a.bytes.now in
-    let w = c.walk-i in
-    file_at_lem st b.requires.0 a.path.now w.result c.slot_of-slot.result b.requires.1 (omega (arith, c.if-words-i.false)) (w.ensures (omega (arith, c.if-words-i.false))) c.slot_of-slot.ensures (sym c.kind_of.ensures ∙ c.if-kind_of-ne2.false)
+    let st = lent_by c.args.lent in
+    let i = c.in_ok-i.ensures in
+    let low = slot-low st c.requires.0 c.in_ok-i.i i.within in
+    let is = c.slot_of-slot.ensures in
+    rw c.then_some.ensures
+    (if-file st c.args.path.now _ _ (λ e. (omega (arith, low, is), file_at_lem st c.requires.0 c.args.path.now c.in_ok-i.i _ c.requires.1 i is (sym c.kind_of.ensures ∙ eqb-true _ _ e ∙ c.code.ensures))))

@@ -1,13 +1,9 @@
 -- `name_ok` meets its contract: there is one piece, and it is a name.
 -- Assumes nothing.
-use mathlib.Core.Bool.{false≢true}
 use mathlib.Core.Path.{sym, ◌∙◌, subst}
 use lib.Dec.{T}
 use Rattle.test_tried.proofs.Spots.{name-said}
 use Rattle.test_tried.proofs.place.name_ok.Goals as goal
 
-pub returns-then-piece_start-ne0 : goal.returns-then-piece_start-ne0
-returns-then-piece_start-ne0 c = λ h. absurd (false≢true h)
-
 pub returns : goal.returns
-returns c = λ h. let s = c.args.name.now in name-said s c.piece_start.result c.if-piece_start-ne0.false c.piece_start.ensures (subst T (sym h ∙ c.piece_ok.ensures) tt)
+returns c h = name-said c.args.name.now c.piece_start.result c.if-piece_start-ne0.false c.piece_start.ensures (subst T (sym h ∙ c.piece_ok.ensures) tt)

@@ -1,49 +1,11 @@
 -- `spot_in` meets its contract: where a name is missing, its place is vacant.
 -- Assumes nothing.
-use mathlib.Core.Path.{◌≡◌, refl, subst}
-use Prim.Native.Nat.{◌<◌}
-use native.Mathlib.Nat.{le_refl}
-use native.Mathlib.Omega.{arith}
-use borrow.Author.Tests.{not-false}
-use Rattle.layout.specs.Store.{lent, count, kind_at, state}
-use Rattle.ask_find.specs.Paths.{slot_at, path_at}
-use Rattle.ask_find.specs.Spots.{nothing, Looks}
-use Rattle.std.specs.Prelude.{Result}
-use Rattle.ask_find.specs.declared.Spot.{Spot}
-use Rattle.ask_find.specs.declared.Gap.{Gap}
-use Rattle.ask_find.proofs.Children.{dir-told}
-use Rattle.test_tried.proofs.Spots.{at_record, spotted}
-use Rattle.test_tried.proofs.place.spot_in.Goals.{Else-not-is_dir}
+use mathlib.Core.Path.{sym}
+use Rattle.layout.specs.Lent.{lent_by}
+use Rattle.test_tried.proofs.Spots.{place-found}
 use Rattle.test_tried.proofs.place.spot_in.Goals as goal
 
-pub returns-then-not-is_dir : goal.returns-then-not-is_dir
-returns-then-not-is_dir c = λ h. absurd (h c.nowhere.ensures)
-
-pub returns-then-not-name_ok : goal.returns-then-not-name_ok
-returns-then-not-name_ok c = λ h. absurd (h c.nowhere-then-not-name_ok.ensures)
-
--- the record is a directory's
-dir-is : (c : Else-not-is_dir) → let s = c in (s.args.dir < count ((lent c.args.words.now c.args.records.now c.args.heads.now c.args.times.now c.args.paths.now c.args.bytes.now))) × (kind_at ((lent c.args.words.now c.args.records.now c.args.heads.now c.args.times.now c.args.paths.now c.args.bytes.now)) (slot_at ((lent c.args.words.now c.args.records.now c.args.heads.now c.args.times.now c.args.paths.now c.args.bytes.now)) s.args.dir) ≡ 1)
-dir-is c = c.is_dir.ensures (not-false c.is_dir.result c.if-not-is_dir.false-raw)
-
-pub names_to-off-requires : goal.names_to-off-requires
-names_to-off-requires c = let l = c.requires in let d = dir-is (goal.at.names_to-off-requires c).Else-not-is_dir in (omega (arith, d.0, l.counted, l.exact.records), omega (arith, d.0, l.counted, l.entry_limit.1))
-
-pub child-requires : goal.child-requires
-child-requires c =
-    let s = c in
-    record { store = (lent c.args.words.now c.args.records.now c.args.heads.now c.args.times.now c.args.paths.now c.args.bytes.now); path = path_at ((lent c.args.words.now c.args.records.now c.args.heads.now c.args.times.now c.args.paths.now c.args.bytes.now)) s.args.dir; records = refl; bytes = refl; counted = refl; lawful = s.requires; at = at_record ((lent c.args.words.now c.args.records.now c.args.heads.now c.args.times.now c.args.paths.now c.args.bytes.now)) s.args.dir c.names_to-off.result (dir-is (goal.at.child-requires c).Else-not-is_dir).0 c.names_to-off.ensures }
-
-pub returns-in-Ok : goal.returns-in-Ok
-returns-in-Ok c = λ h. absurd (h c.nowhere-in-Ok.ensures)
-
-pub returns-in-Err : goal.returns-in-Err
-returns-in-Err c =
-    λ h. let s = c in
-    let st = (lent c.args.words.now c.args.records.now c.args.heads.now c.args.times.now c.args.paths.now c.args.bytes.now) in
-    let q = path_at st s.args.dir in
-    let d = dir-is (goal.at.returns-in-Err c).Else-not-is_dir in
-    let a = at_record st s.args.dir c.names_to-off.result d.0 c.names_to-off.ensures in
-    let v = subst (λ (r : Result Spot Gap). Looks st (count st) (state st).tree q s.args.name.now r) c.in-Err.is
-    (c.child.ensures st refl refl refl s.requires q (state st).tree a (nothing (le_refl (count st)) refl) (dir-told st s.requires s.args.dir d.0 d.1)) in
-    spotted st s.requires s.args.dir d.0 s.args.name.now (c.name_ok.ensures (not-false c.name_ok.result c.if-not-name_ok.false-raw)) _ v.0 v.1
+pub returns : goal.returns
+returns c =
+    rw c.err.ensures.value
+    (place-found (lent_by c.args.lent) c.requires c.args.dir (c.is_dir.ensures c.if-not-is_dir.false) c.args.name.now (c.name_ok.ensures c.if-not-name_ok.false) c.names_to-off.ensures _ c.child.ensures)

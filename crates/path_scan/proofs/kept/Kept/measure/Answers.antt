@@ -25,13 +25,7 @@ invariant_of-result c =
     }
 
 plain : (c : In-Some) → let a = c.args in PlainIs (Some (c.in-Some.start, c.in-Some.end)) a.strike a.behind a.text.now
-plain c = let a = c.args in plain-behind (Some (c.in-Some.start, c.in-Some.end)) a.strike a.behind a.text.now c.if-behind-eq0.true (c.in-Some.ensures a.strike)
-
-pub overflow_sub-result : goal.overflow_sub-result
-overflow_sub-result c = (plain c).0
-
-pub overflow_add-result : goal.overflow_add-result
-overflow_add-result c = omega (arith, (plain c).1)
+plain c = let a = c.args in plain-behind (Some (c.in-Some.start, c.in-Some.end)) a.strike a.behind a.text.now c.if-behind-eq0.true (c.in-Some.ensures.plain a.strike)
 
 pub invariant_of-result-in-Some : goal.invariant_of-result-in-Some
 invariant_of-result-in-Some c =

@@ -6,11 +6,8 @@ use Rattle.std.specs.Prelude.{Some, None}
 use Rattle.path.specs.Backward.{part}
 use Rattle.path.proofs.Cutting.{part_length}
 use Rattle.path.proofs.Dots.{up_length}
-use Rattle.path.proofs.Reading.{Passed, pass_none, pass_all, pass-vanished, pass_up, pass-dropped, pass_kept, next_same}
+use Rattle.path.proofs.Reading.{Passed, pass_all, pass-vanished, pass_up, pass-dropped, pass_kept, next_same}
 use Rattle.path_scan.proofs.sifting.KeptNamesIterator.next.Goals as goal
-
-pub loop-self-init : goal.loop-self-init
-loop-self-init c = (refl, refl, pass_none _ _ _ _)
 
 pub loop-self-preserved-in-Vanishes : goal.loop-self-preserved-in-Vanishes
 loop-self-preserved-in-Vanishes c =

@@ -4,7 +4,7 @@ use mathlib.Core.Path.{◌≡◌}
 use Prim.Native.Nat.{◌≤◌, ◌-◌}
 use lib.ListN.{length, drop}
 use Rattle.text.specs.Utf8.{octets, text}
-use Rattle.text.proofs.walk.Given as goal
+use Rattle.text.proofs.Classes.walk.Given as goal
 
 abbrev pub invariant-loop-i : goal.invariant-loop-i
 invariant-loop-i l = (l.i ≤ length l.s) × (text l.s ≡ octets 0 (drop l.i l.s))

@@ -5,8 +5,8 @@ use native.Mathlib.Omega.{arith}
 use lib.ListN.{length, drop}
 use Rattle.text.proofs.Turns.{turn}
 use Rattle.text.specs.Utf8.{octets, text}
-use Rattle.text.proofs.walk.Goals.{In-Some}
-use Rattle.text.proofs.walk.Goals as goal
+use Rattle.text.proofs.Classes.walk.Goals.{In-Some}
+use Rattle.text.proofs.Classes.walk.Goals as goal
 
 -- what holds behind a character
 moved : (c : In-Some) → let s = c.args.s.now in
