@@ -19,7 +19,7 @@ use Rattle.path.proofs.Every.{Every}
 use Rattle.model.specs.Tree.{look}
 use Rattle.model.specs.Rules.{name_ok}
 use Rattle.layout.specs.Rows.{name_total}
-use Rattle.layout.specs.Store.{Store, count, rows_of, kind_at, state}
+use Rattle.layout.specs.Store.{Store, count, live, rows_of, kind_at, state}
 use Rattle.layout.specs.Lawful.{Lawful}
 use Rattle.lawful.specs.Parts.{piece_ok}
 use Rattle.lawful.proofs.KeptPaths.{piece-name}
@@ -71,12 +71,12 @@ spotted st l i h x n g e v = go v.room
 -- ---- what `find` answers of a name in the directory at a record
 
 module _ (st : Store) (l : Lawful st) (i : ℕ) (d : (i < count st) × (kind_at st (slot_at st i) ≡ 1)) (x : Name) where
-  looked : {o : ℕ} → o ≡ name_total (take i st.records) → (r : Result Spot Gap) → ChildIs st.records st.bytes (count st) (record { at = i; off = o }) x (count st) r
+  looked : {o : ℕ} → o ≡ name_total (take i st.records) → (r : Result Spot Gap) → ChildIs (live st) st.bytes (record { at = i; off = o }) x (count st) r
       → Looks st (count st) (state st).tree (path_at st i) x r
-  looked {o} e r k = k st refl refl refl l (path_at st i) (state st).tree (at_record st i o d.0 e) (nothing (le_refl (count st)) refl) (dir-told st l i d.0 d.1)
+  looked {o} e r k = k st refl refl l (path_at st i) (state st).tree (at_record st i o d.0 e) (nothing (le_refl (count st)) refl) (dir-told st l i d.0 d.1)
 
   -- its place, if it is missing
-  pub place-found : T (name_ok x) → {o : ℕ} → o ≡ name_total (take i st.records) → (r : Result Spot Gap) → ChildIs st.records st.bytes (count st) (record { at = i; off = o }) x (count st) r
+  pub place-found : T (name_ok x) → {o : ℕ} → o ≡ name_total (take i st.records) → (r : Result Spot Gap) → ChildIs (live st) st.bytes (record { at = i; off = o }) x (count st) r
       → IfSome (result_err r) (λ g. Spotted st i g.at g.depth x)
   place-found n e r k = go r (looked e r k)
     where
@@ -85,7 +85,7 @@ module _ (st : Store) (l : Lawful st) (i : ℕ) (d : (i < count st) × (kind_at 
       go (Err g) y = spotted st l i d.0 x n g y.0 y.1
 
   -- its record, if it is there
-  pub record-found : {o : ℕ} → o ≡ name_total (take i st.records) → (r : Result Spot Gap) → ChildIs st.records st.bytes (count st) (record { at = i; off = o }) x (count st) r
+  pub record-found : {o : ℕ} → o ≡ name_total (take i st.records) → (r : Result Spot Gap) → ChildIs (live st) st.bytes (record { at = i; off = o }) x (count st) r
       → IfSome (result_ok r) (λ s. ChildOf st i x s.at)
   record-found e r k = go r (looked e r k)
     where
