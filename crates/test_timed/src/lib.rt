@@ -36,16 +36,12 @@ pub extern "C" fn timed_place(
         bytes,
     };
     let made = Made::File(text);
-    let mut at = 0;
-    while 10 <= names.len() - at {
-        let e = at + 10;
-        let name = &names[at..e];
+    for (i, name) in names.chunks_exact(10).enumerate() {
         if spot_in(lent, dir, name).is_none() || !insertable(lent, name, made) {
-            return at / 10;
+            return i;
         }
-        at = e;
     }
-    at / 10
+    names.len() / 10
 }
 
 // A file for each name, of which each has 10 bytes, in the directory at record dir, up to one that is refused; how many were made.
@@ -66,18 +62,14 @@ pub extern "C" fn timed_insert(
     }
     let made = Made::File(text);
     let new = Fresh { mode: 420, time: 1 };
-    let mut at = 0;
-    while 10 <= names.len() - at {
-        let e = at + 10;
-        let name = &names[at..e];
+    for (i, name) in names.chunks_exact(10).enumerate() {
         if !insert_in(
             words, records, heads, times, paths, bytes, dir, name, made, new,
         ) {
-            return at / 10;
+            return i;
         }
-        at = e;
     }
-    at / 10
+    names.len() / 10
 }
 
 // The entry that stands at record i, n times, up to one that is refused; how many were removed.
@@ -95,14 +87,12 @@ pub extern "C" fn timed_remove(
     if !ready(words, records, heads, times, paths, bytes) {
         return 0;
     }
-    let mut k = 0;
-    while k < n {
+    for k in 0..n {
         if !remove_in(words, records, heads, times, paths, bytes, i) {
             return k;
         }
-        k += 1;
     }
-    k
+    n
 }
 
 // The contents of the file at record i, a and then b, n times, up to a refusal; how many times both were stored.
@@ -122,15 +112,13 @@ pub extern "C" fn timed_contents(
     if !ready(words, records, heads, times, paths, bytes) {
         return 0;
     }
-    let mut k = 0;
-    while k < n {
+    for k in 0..n {
         if !contents_in(words, records, heads, times, paths, bytes, i, a, 1) {
             return k;
         }
         if !contents_in(words, records, heads, times, paths, bytes, i, b, 2) {
             return k;
         }
-        k += 1;
     }
-    k
+    n
 }
