@@ -1,16 +1,14 @@
 -- What the tests say of a store. Slices that are as long as the limits ask are not cut, but for the words of the slots.
 -- Assumes nothing.
 use mathlib.Core.Path.{◌≡◌, subst}
-use Prim.Native.Nat.{ℕ, ◌*◌, ◌<◌}
+use Prim.Native.Nat.{◌*◌}
 use native.Mathlib.Omega.{arith}
-use lib.ListN.{length, take, get_or}
+use lib.ListN.{take}
 use lib.Seq.{take_all}
-use Rattle.layout.specs.Fields.{len_of}
-use Rattle.layout.specs.Store.{Store, most, room, extent, kind_at, slots_for, core}
+use Rattle.layout.specs.Store.{Store, most, room, extent, slots_for, core}
 use Rattle.layout.specs.Lawful.{Lawful}
 use Rattle.edit_room.specs.Extents.{trim, Roomy}
-use Rattle.edit_slot.specs.Changes.{HasRoom}
-use Rattle.test_tried.specs.Tried.{Whole, Fits}
+use Rattle.test_tried.specs.Tried.{Whole}
 
 -- the store of which it is said
 abbrev pub stored : {st : Store} → Roomy st → Store
@@ -32,7 +30,3 @@ uncut st w l =
       bytes = take_all (room st) st.bytes (omega (arith, w.bytes)) i;
     } in
     record { lawful = subst Lawful e l; room = omega (arith, w.heads) }
-
--- a file's slot, and room for bytes in the place of its own
-pub has-room : {st : Store} {k n j : ℕ} → k < length st.heads → kind_at st k ≡ 2 → j ≡ len_of (get_or st.heads k 0) → Fits st j n → HasRoom st k n
-has-room h d e f = record { there = h; is_file = d; room = omega (arith, e, f) }

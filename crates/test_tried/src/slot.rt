@@ -2,9 +2,12 @@
 ghost use Rattle.std.specs.Prelude.{IfSome, ◌≡◌, ◌≤◌, ◌<◌, length, get_or};
 ghost use Rattle.layout.specs.Numbers.{word_count};
 ghost use Rattle.layout.specs.Fields.{slot_of};
-ghost use Rattle.layout.specs.Lent.{lends};
+ghost use Rattle.layout.specs.Store.{count};
+ghost use Rattle.layout.specs.Lent.{lends, lent_by};
 ghost use Rattle.layout.specs.Lawful.{Lawful};
+ghost use Rattle.ask_find.specs.Paths.{slot_at};
 ghost use Rattle.edit_room.specs.Extents.{Roomy};
+ghost use Rattle.edit_slot.specs.Changes.{HasRoom};
 
 use crate::asked::{ready, room_for};
 use layout::kind::Kind;
@@ -21,6 +24,19 @@ fn slot_at(words: &[u64], records: &[u64], slots: usize, i: usize) -> Option<usi
     }
     let slot = slot_of(records[i]);
     (slot < slots).then_some(slot)
+}
+
+// The slot of the file at record i, if n bytes in place of its own are within the byte limit.
+fn file_at(lent: Slices, i: usize, n: usize) -> Option<usize>
+    requires { Lawful (lent_by lent) }
+    ensures { let st = lent_by lent.entry in IfSome result (λ k. (i < count st) × (k ≡ slot_at st i) × HasRoom st k n) }
+{
+    let slot = slot_at(lent.words, lent.records, lent.heads.len(), i)?;
+    let h = lent.heads[slot];
+    if kind_of(h) != Kind::File.code() {
+        return None;
+    }
+    room_for(lent, len_of(h), n).then_some(slot)
 }
 
 pub fn try_mode(
@@ -88,44 +104,7 @@ pub fn try_some_times(
     true
 }
 
-// The contents of the file at record i, in a store that obeys the rules.
-fn contents_exact(
-    words: &[u64],
-    records: &[u64],
-    heads: &mut [u64],
-    times: &mut [i64],
-    paths: &[u8],
-    bytes: &mut [u8],
-    i: usize,
-    text: &[u8],
-    t: i64,
-) -> bool
-    requires { Lawful (lends words.now records.now heads.old times.old paths.now bytes.old) }
-    ensures { Lawful (lends words.now records.now heads.new times.new paths.now bytes.new) }
-{
-    let Some(slot) = slot_at(words, records, heads.len(), i) else {
-        return false;
-    };
-    let h = heads[slot];
-    if kind_of(h) != Kind::File.code() {
-        return false;
-    }
-    let lent = Slices {
-        words,
-        records,
-        heads,
-        times,
-        paths,
-        bytes,
-    };
-    if !room_for(lent, len_of(h), text.len()) {
-        return false;
-    }
-    edit_slot::set_contents(heads, times, bytes, slot, text, t);
-    true
-}
-
-// The same, with room behind the words of the slots so far.
+// The contents of the file at record i.
 pub fn contents_in(
     words: &[u64],
     records: &[u64],
@@ -141,17 +120,19 @@ pub fn contents_in(
     ensures { Roomy (lends words.now records.now heads.new times.new paths.now bytes.new) }
 {
     let slots = words[EXTENT_AT] as usize;
-    contents_exact(
+    let lent = Slices {
         words,
         records,
-        &mut heads[..slots],
+        heads: &heads[..slots],
         times,
         paths,
         bytes,
-        i,
-        text,
-        t,
-    )
+    };
+    let Some(slot) = file_at(lent, i, text.len()) else {
+        return false;
+    };
+    edit_slot::set_contents(&mut heads[..slots], times, bytes, slot, text, t);
+    true
 }
 
 pub fn try_contents(
@@ -171,41 +152,6 @@ pub fn try_contents(
     contents_in(words, records, heads, times, paths, bytes, i, text, t)
 }
 
-// The length of the file at record i, in a store that obeys the rules.
-fn length_exact(
-    words: &[u64],
-    records: &[u64],
-    heads: &mut [u64],
-    times: &[i64],
-    paths: &[u8],
-    bytes: &mut [u8],
-    i: usize,
-    n: usize,
-) -> bool
-    requires { Lawful (lends words.now records.now heads.old times.now paths.now bytes.old) }
-{
-    let Some(slot) = slot_at(words, records, heads.len(), i) else {
-        return false;
-    };
-    let h = heads[slot];
-    if kind_of(h) != Kind::File.code() {
-        return false;
-    }
-    let lent = Slices {
-        words,
-        records,
-        heads,
-        times,
-        paths,
-        bytes,
-    };
-    if !room_for(lent, len_of(h), n) {
-        return false;
-    }
-    edit_slot::set_length(heads, bytes, slot, n);
-    true
-}
-
 pub fn try_length(
     words: &[u64],
     records: &[u64],
@@ -220,14 +166,17 @@ pub fn try_length(
         return false;
     }
     let slots = words[EXTENT_AT] as usize;
-    length_exact(
+    let lent = Slices {
         words,
         records,
-        &mut heads[..slots],
+        heads: &heads[..slots],
         times,
         paths,
         bytes,
-        i,
-        n,
-    )
+    };
+    let Some(slot) = file_at(lent, i, n) else {
+        return false;
+    };
+    edit_slot::set_length(&mut heads[..slots], bytes, slot, n);
+    true
 }
