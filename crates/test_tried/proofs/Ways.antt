@@ -4,17 +4,14 @@
 use mathlib.Core.Bool.{Bool, true, false}
 use mathlib.Core.Option.{none}
 use mathlib.Core.Path.{◌≡◌, refl}
-use Prim.Native.Nat.{ℕ, ◌+◌, ◌≤◌, ◌<◌}
+use Prim.Native.Nat.{ℕ, ◌≤◌, ◌<◌}
 use native.Mathlib.Omega.{arith}
 use lib.Dec.{leb}
-use lib.ListN.{length, get_or}
+use lib.ListN.{length}
 use borrow.Author.Tests.{leb-true, leb-false}
 use Rattle.path.specs.Path.{Name}
 use Rattle.model.specs.Tree.{behind}
-use Rattle.layout.specs.Fields.{nlen_of}
-use Rattle.layout.specs.Rows.{name_total}
-use Rattle.layout.specs.Slots.{total}
-use Rattle.layout.specs.Store.{Store, room, count, live}
+use Rattle.layout.specs.Store.{Store}
 use Rattle.layout.specs.Lawful.{Lawful}
 use Rattle.layout.proofs.Edited.Removing.{rises-behind}
 use Rattle.ask_find.specs.Paths.{path_at}

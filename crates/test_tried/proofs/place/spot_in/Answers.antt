@@ -1,6 +1,5 @@
 -- `spot_in` meets its contract: where a name is missing, its place is vacant.
 -- Assumes nothing.
-use mathlib.Core.Path.{sym}
 use Rattle.layout.specs.Lent.{lent_by}
 use Rattle.test_tried.proofs.Spots.{place-found}
 use Rattle.test_tried.proofs.place.spot_in.Goals as goal
