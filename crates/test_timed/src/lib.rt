@@ -1,6 +1,7 @@
 #![tactic(auto)]
 // Only for timing: an edit made many times in one store, for a C program. The store is tested once, since each edit leaves a store
 // that obeys the rules.
+use edit_entry::lent::Entries;
 use edit_entry::made::{Fresh, Made};
 use layout::EXTENT_AT;
 use layout::slices::Slices;
@@ -63,9 +64,13 @@ pub extern "C" fn timed_insert(
     let made = Made::File(text);
     let new = Fresh { mode: 420, time: 1 };
     for (i, name) in names.chunks_exact(10).enumerate() {
-        if !insert_in(
-            words, records, heads, times, paths, bytes, dir, name, made, new,
-        ) {
+        let lent = Entries {
+            words,
+            records,
+            times,
+            bytes,
+        };
+        if !insert_in(lent, heads, paths, dir, name, made, new) {
             return i;
         }
     }

@@ -1,5 +1,6 @@
 // Entries put in and taken out.
-ghost use Rattle.std.specs.Prelude.{◌<◌, get_or};
+ghost use Rattle.std.specs.Prelude.{◌<◌};
+ghost use Rattle.layout.specs.Store.{most, count};
 ghost use Rattle.layout.specs.Lent.{lends};
 ghost use Rattle.layout.specs.Lawful.{Lawful};
 ghost use Rattle.slots.specs.Free.{HasFree};
@@ -44,21 +45,24 @@ pub fn try_root(
 
 // The entry `name` of the directory at record dir, in a store that obeys the rules and has a free slot below the entry limit.
 fn insert_exact(
-    words: &mut [u64],
-    records: &mut [u64],
+    l: Entries,
     heads: &mut [u64],
-    times: &mut [i64],
     paths: &[u8],
-    bytes: &mut [u8],
     dir: usize,
     name: &[u8],
     made: Made,
     new: Fresh,
 ) -> bool
-    requires { Lawful
-        (lends words.old records.old heads.old times.old paths.now bytes.old) × (get_or words.old 2 0 < get_or words.old 0 0 → HasFree heads.old) }
-    ensures { Lawful (lends words.new records.new heads.new times.new paths.now bytes.new) }
+    requires { let st = lends l.words.now l.records.now heads.old l.times.now paths.now l.bytes.now in
+        Lawful st × (count st < most st → HasFree st.heads) }
+    ensures { Lawful (lends l.exit.0.now l.exit.1.0.now heads.new l.exit.1.1.0.now paths.now l.exit.1.1.1.0.now) }
 {
+    let Entries {
+        words,
+        records,
+        times,
+        bytes,
+    } = l;
     let lent = Slices {
         words,
         records,
@@ -73,46 +77,44 @@ fn insert_exact(
     if !insertable(lent, name, made) {
         return false;
     }
-    let entries = Entries {
+    let left = Entries {
         words,
         records,
         times,
         bytes,
     };
-    insert_entry(entries, heads, gap.at, gap.depth, name, made, new);
+    insert_entry(left, heads, gap.at, gap.depth, name, made, new);
     true
 }
 
 // The same, with room behind the words of the slots so far.
 pub fn insert_in(
-    words: &mut [u64],
-    records: &mut [u64],
+    l: Entries,
     heads: &mut [u64],
-    times: &mut [i64],
     paths: &[u8],
-    bytes: &mut [u8],
     dir: usize,
     name: &[u8],
     made: Made,
     new: Fresh,
 ) -> bool
-    requires { Roomy (lends words.old records.old heads.old times.old paths.now bytes.old) }
-    ensures { Roomy (lends words.new records.new heads.new times.new paths.now bytes.new) }
+    requires { Roomy (lends l.words.now l.records.now heads.old l.times.now paths.now l.bytes.now) }
+    ensures { Roomy (lends l.exit.0.now l.exit.1.0.now heads.new l.exit.1.1.0.now paths.now l.exit.1.1.1.0.now) }
 {
-    edit_room::reserve(words, heads);
-    let slots = words[EXTENT_AT] as usize;
-    let done = insert_exact(
+    let Entries {
         words,
         records,
-        &mut heads[..slots],
         times,
-        paths,
         bytes,
-        dir,
-        name,
-        made,
-        new,
-    );
+    } = l;
+    edit_room::reserve(words, heads);
+    let slots = words[EXTENT_AT] as usize;
+    let left = Entries {
+        words,
+        records,
+        times,
+        bytes,
+    };
+    let done = insert_exact(left, &mut heads[..slots], paths, dir, name, made, new);
     edit_room::release(words, heads);
     done
 }
@@ -138,9 +140,14 @@ pub fn try_insert(
         return false;
     };
     let new = Fresh { mode, time: t };
-    insert_in(
-        words, records, heads, times, paths, bytes, dir, name, made, new,
-    )
+    let l = Entries {
+        words,
+        records,
+        times,
+        bytes,
+    };
+    let done = insert_in(l, heads, paths, dir, name, made, new);
+    done
 }
 
 // The entry at record i, with all below it, in a store that obeys the rules.

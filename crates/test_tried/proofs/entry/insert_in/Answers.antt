@@ -27,10 +27,10 @@ pub release-requires : goal.release-requires
 release-requires c =
     let v = c.reserve.ensures (stored c.requires) c.requires in
     let x = c.insert_exact-done in
-    (lent [] x.new.records [] x.new.times c.args.paths.now x.new.bytes, part-back _ _ _ _ _ _ _ _ _ _ _ _ _ v.resized.roomy refl x.auto.heads x.auto.records x.ensures)
+    (lent [] x.new.l.1.0 [] x.new.l.1.1.0 c.args.paths.now x.new.l.1.1.1.0, part-back _ _ _ _ _ _ _ _ _ _ _ _ _ v.resized.roomy refl x.auto.heads (omega arith) x.ensures)
 
 pub returns : goal.returns
 returns c =
     let v = c.reserve.ensures (stored c.requires) c.requires in
     let x = c.insert_exact-done in
-    (c.release.ensures (lent [] x.new.records [] x.new.times c.args.paths.now x.new.bytes) (part-back _ _ _ _ _ _ _ _ _ _ _ _ _ v.resized.roomy refl x.auto.heads x.auto.records x.ensures)).resized.roomy
+    (c.release.ensures (lent [] x.new.l.1.0 [] x.new.l.1.1.0 c.args.paths.now x.new.l.1.1.1.0) (part-back _ _ _ _ _ _ _ _ _ _ _ _ _ v.resized.roomy refl x.auto.heads (omega arith) x.ensures)).resized.roomy
