@@ -7,9 +7,11 @@ ghost use Rattle.edit_room.specs.Extents.{Roomy};
 ghost use Rattle.test_tried.specs.Tried.{Whole, Fits};
 
 use layout::slices::Slices;
-use layout::{FILE_NUMBERS, MOST_AT, MOST_ENTRIES, PATHS_BYTES, ROOM_AT, WORD_COUNT};
+use layout::{FILE_NUMBERS, LENGTHS, MOST_AT, MOST_ENTRIES, PATHS_BYTES, ROOM_AT, WORD_COUNT};
 
 const MOST: usize = MOST_ENTRIES as usize;
+
+const LENGTH: usize = LENGTHS as usize;
 
 // Whether the slices are as long as the limits ask, and no longer.
 fn whole(lent: Slices) -> bool
@@ -29,6 +31,7 @@ fn whole(lent: Slices) -> bool
 }
 
 // Whether the slices are a store that an edit may be made in.
+// kept: the slices are lent one by one, as callers have them: a `Slices` at each of the 18 calls is eight lines, and tells no more.
 pub fn ready(
     words: &[u64],
     records: &[u64],
@@ -55,7 +58,7 @@ pub fn room_for(lent: Slices, free: usize, n: usize) -> bool
     requires { Lawful (lent_by lent) × (free < lengths) }
     ensures { result ≡ true → Fits (lent_by lent.entry) free n }
 {
-    if 16777216 < n {
+    if LENGTH < n {
         return false;
     }
     let used = ask_used::bytes_used(lent.words, lent.records, lent.heads);

@@ -1,4 +1,5 @@
 // Entries put in and taken out.
+// kept: the slices are lent one by one, since each edit writes others of them; one struct of six `&mut` would ask to write them all.
 ghost use Rattle.std.specs.Prelude.{◌<◌};
 ghost use Rattle.layout.specs.Store.{most, count};
 ghost use Rattle.layout.specs.Lent.{lends};
@@ -22,7 +23,7 @@ pub fn try_root(
     paths: &[u8],
     bytes: &mut [u8],
     mode: u32,
-    t: i64,
+    time: i64,
 ) -> bool {
     if !ready(words, records, heads, times, paths, bytes) {
         return false;
@@ -38,7 +39,7 @@ pub fn try_root(
         times,
         bytes,
     };
-    insert_root(lent, &mut heads[..slots], Fresh { mode, time: t });
+    insert_root(lent, &mut heads[..slots], Fresh { mode, time });
     edit_room::release(words, heads);
     true
 }
@@ -119,6 +120,7 @@ pub fn insert_in(
     done
 }
 
+// kept: the kind is a number, as in `made_of`.
 pub fn try_insert(
     words: &mut [u64],
     records: &mut [u64],
@@ -130,7 +132,7 @@ pub fn try_insert(
     name: &[u8],
     kind: u64,
     mode: u32,
-    t: i64,
+    time: i64,
     text: &[u8],
 ) -> bool {
     if !ready(words, records, heads, times, paths, bytes) {
@@ -139,7 +141,7 @@ pub fn try_insert(
     let Some(made) = made_of(kind, text) else {
         return false;
     };
-    let new = Fresh { mode, time: t };
+    let new = Fresh { mode, time };
     let l = Entries {
         words,
         records,

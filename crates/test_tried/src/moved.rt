@@ -1,4 +1,5 @@
 // An entry moved, with all below it.
+// kept: the slices are lent one by one, since each edit writes others of them; one struct of six `&mut` would ask to write them all.
 ghost use Rattle.std.specs.Prelude.{IfSome, true, ◌≡◌};
 ghost use Rattle.layout.specs.Lent.{lent_by};
 ghost use Rattle.layout.specs.Lawful.{Lawful};

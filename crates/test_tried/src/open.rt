@@ -1,4 +1,5 @@
 // A file number opened, by a path.
+// kept: the slices are lent one by one, since each edit writes others of them; one struct of six `&mut` would ask to write them all.
 ghost use Rattle.std.specs.Prelude.{IfSome, ◌≡◌, ◌<◌, T, length};
 ghost use Rattle.std.proofs.Math.Option.{some};
 ghost use Rattle.path.specs.Path.{names};
@@ -71,17 +72,17 @@ pub fn try_open(
     times: &[i64],
     paths: &mut [u8],
     bytes: &[u8],
-    n: usize,
-    pos: u64,
+    number: usize,
+    position: u64,
     path: &[u8],
 ) -> bool {
     if !ready(words, records, heads, times, paths, bytes) {
         return false;
     }
-    if FILE_NUMBERS <= n {
+    if FILE_NUMBERS <= number {
         return false;
     }
-    if words[HOLDER_AT + NUMBER_WORDS * n] != 0 {
+    if words[HOLDER_AT + NUMBER_WORDS * number] != 0 {
         return false;
     }
     if CELL_BYTES < path.len() {
@@ -102,6 +103,6 @@ pub fn try_open(
     let Some(slot) = file_slot(lent, path) else {
         return false;
     };
-    edit_state::open_number(words, paths, n, slot, pos, path);
+    edit_state::open_number(words, paths, number, slot, position, path);
     true
 }

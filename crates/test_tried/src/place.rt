@@ -12,8 +12,9 @@ ghost use Rattle.test_tried.specs.Tried.{Spotted};
 use crate::asked::room_for;
 use ask_find::{Gap, Spot};
 use edit_entry::made::Made;
+use layout::kind::Kind;
 use layout::slices::Slices;
-use layout::{COUNT_AT, MOST_BYTES};
+use layout::{COUNT_AT, MOST_BYTES, kind_of, slot_of};
 
 const MOST: usize = MOST_BYTES as usize;
 
@@ -35,8 +36,8 @@ pub fn is_dir(lent: Slices, i: usize) -> bool
     if lent.words[COUNT_AT] as usize <= i {
         return false;
     }
-    let slot = layout::slot_of(lent.records[i]);
-    layout::kind_of(lent.heads[slot]) == 1
+    let slot = slot_of(lent.records[i]);
+    kind_of(lent.heads[slot]) == Kind::Directory.code()
 }
 
 // Where the entry `name` of the directory at record dir would stand, if there is none.
@@ -57,6 +58,7 @@ pub fn spot_in(lent: Slices, dir: usize, name: &[u8]) -> Option<Gap>
 }
 
 // What an entry of that kind with those bytes is: 1 is a directory, which has none, 2 a file, 3 a link.
+// kept: the kind is a number, since any may be asked for and one that is none is refused; a Kind would ask more of callers.
 pub fn made_of(kind: u64, text: &[u8]) -> Option<Made<'_>>
     ensures { IfSome result (λ m. bytes_made m ≡ text.now) }
 {

@@ -1,4 +1,5 @@
 // What stands in the slot of record i.
+// kept: the slices are lent one by one, since each edit writes others of them; one struct of six `&mut` would ask to write them all.
 ghost use Rattle.std.specs.Prelude.{IfSome, ◌≡◌, ◌≤◌, ◌<◌, length, get_or};
 ghost use Rattle.layout.specs.Numbers.{word_count};
 ghost use Rattle.layout.specs.Fields.{slot_of};
@@ -47,7 +48,7 @@ pub fn try_mode(
     paths: &[u8],
     bytes: &[u8],
     i: usize,
-    m: u32,
+    mode: u32,
 ) -> bool {
     if !ready(words, records, heads, times, paths, bytes) {
         return false;
@@ -56,7 +57,7 @@ pub fn try_mode(
     let Some(slot) = slot_at(words, records, slots, i) else {
         return false;
     };
-    edit_slot::set_mode(&mut heads[..slots], slot, m);
+    edit_slot::set_mode(&mut heads[..slots], slot, mode);
     true
 }
 
@@ -68,8 +69,8 @@ pub fn try_times(
     paths: &[u8],
     bytes: &[u8],
     i: usize,
-    a: i64,
-    t: i64,
+    accessed: i64,
+    modified: i64,
 ) -> bool {
     if !ready(words, records, heads, times, paths, bytes) {
         return false;
@@ -78,7 +79,7 @@ pub fn try_times(
     let Some(slot) = slot_at(words, records, slots, i) else {
         return false;
     };
-    edit_slot::set_times(times, slot, a, t);
+    edit_slot::set_times(times, slot, accessed, modified);
     true
 }
 
@@ -160,7 +161,7 @@ pub fn try_length(
     paths: &[u8],
     bytes: &mut [u8],
     i: usize,
-    n: usize,
+    size: usize,
 ) -> bool {
     if !ready(words, records, heads, times, paths, bytes) {
         return false;
@@ -174,9 +175,9 @@ pub fn try_length(
         paths,
         bytes,
     };
-    let Some(slot) = file_at(lent, i, n) else {
+    let Some(slot) = file_at(lent, i, size) else {
         return false;
     };
-    edit_slot::set_length(&mut heads[..slots], bytes, slot, n);
+    edit_slot::set_length(&mut heads[..slots], bytes, slot, size);
     true
 }

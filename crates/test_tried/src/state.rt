@@ -1,4 +1,5 @@
 // The umask, the current directory and the file numbers.
+// kept: the slices are lent one by one, since each edit writes others of them; one struct of six `&mut` would ask to write them all.
 use crate::asked::ready;
 use layout::{CELL_BYTES, EXTENT_AT, FILE_NUMBERS, HOLDER_AT, NUMBER_WORDS};
 
@@ -9,12 +10,12 @@ pub fn try_umask(
     times: &[i64],
     paths: &[u8],
     bytes: &[u8],
-    m: u32,
+    mask: u32,
 ) -> bool {
     if !ready(words, records, heads, times, paths, bytes) {
         return false;
     }
-    edit_state::set_umask(words, m);
+    edit_state::set_umask(words, mask);
     true
 }
 
@@ -25,16 +26,16 @@ pub fn try_seek(
     times: &[i64],
     paths: &[u8],
     bytes: &[u8],
-    n: usize,
-    k: u64,
+    number: usize,
+    position: u64,
 ) -> bool {
     if !ready(words, records, heads, times, paths, bytes) {
         return false;
     }
-    if FILE_NUMBERS <= n {
+    if FILE_NUMBERS <= number {
         return false;
     }
-    edit_state::set_position(words, n, k);
+    edit_state::set_position(words, number, position);
     true
 }
 
@@ -67,19 +68,19 @@ pub fn try_close(
     times: &[i64],
     paths: &[u8],
     bytes: &mut [u8],
-    n: usize,
+    number: usize,
 ) -> bool {
     if !ready(words, records, heads, times, paths, bytes) {
         return false;
     }
-    if FILE_NUMBERS <= n {
+    if FILE_NUMBERS <= number {
         return false;
     }
-    if words[HOLDER_AT + NUMBER_WORDS * n] == 0 {
+    if words[HOLDER_AT + NUMBER_WORDS * number] == 0 {
         return false;
     }
     let slots = words[EXTENT_AT] as usize;
-    edit_state::close_number(words, records, &mut heads[..slots], bytes, n);
+    edit_state::close_number(words, records, &mut heads[..slots], bytes, number);
     edit_room::release(words, heads);
     true
 }

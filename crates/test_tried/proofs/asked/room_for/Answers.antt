@@ -11,7 +11,7 @@ pub overflow_add-result : goal.overflow_add-result
 overflow_add-result c =
     let l = c.requires.0 in
     let u = c.bytes_used-used.ensures (lent_by c.args.lent) refl refl refl l ∙ bytes-used (lent_by c.args.lent) l in
-    omega (arith, u, l.space, l.byte_limit.1, c.if-n-gt16777216.false)
+    omega (arith, u, l.space, l.byte_limit.1, c.if-n-gt-LENGTH.false)
 
 pub returns : goal.returns
 returns c h =

@@ -11,7 +11,7 @@ use Rattle.test_tried.proofs.state.try_close.Goals as goal
 pub close_number-requires : goal.close_number-requires
 close_number-requires c =
     let l = (c.ready.ensures c.if-not-ready.false).lawful in
-    (kept l, l, record { low = omega (arith, c.if-n-ge-FILE_NUMBERS.false); on = c.if-words-n-eq0.false })
+    (kept l, l, record { low = omega (arith, c.if-number-ge-FILE_NUMBERS.false); on = c.if-words-number-eq0.false })
 
 pub release-requires : goal.release-requires
 release-requires c =
