@@ -17,7 +17,6 @@ use layout::slices::Slices;
 use layout::{
     CELL_BYTES, COUNT_AT, EXTENT_AT, FILE_NUMBERS, HOLDER_AT, NUMBER_WORDS, kind_of, slot_of,
 };
-use path::pieces::piece_end;
 
 // The record of the entry `name` of the directory at record dir.
 fn child(lent: Slices, dir: usize, name: &[u8]) -> Option<usize>
@@ -42,15 +41,15 @@ fn walk(lent: Slices, path: &[u8]) -> Option<usize>
     if lent.words[COUNT_AT] == 0 {
         return None;
     }
+    let Some((first, names)) = path.split_first() else {
+        return Some(0);
+    };
+    if *first != b'/' {
+        return None;
+    }
     let mut i = 0;
-    let mut e = 0;
-    while e < path.len() {
-        if path[e] != b'/' {
-            return None;
-        }
-        let a = e + 1;
-        e = piece_end(path, a);
-        i = child(lent, i, &path[a..e])?;
+    for name in names.split(|b| *b == b'/') {
+        i = child(lent, i, name)?;
     }
     Some(i)
 }
