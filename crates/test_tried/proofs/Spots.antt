@@ -3,26 +3,18 @@
 use mathlib.Core.Bool.{Bool, true, false}
 use mathlib.Core.List.{[], ◌∷◌, ◌++◌}
 use mathlib.Core.Option.{none}
-use mathlib.Core.Path.{◌≡◌, refl, sym, ap, ◌∙◌, subst}
+use mathlib.Core.Path.{◌≡◌, refl, subst}
 use Prim.Native.Nat.{ℕ, suc, ◌-◌, ◌≤◌, ◌<◌}
 use native.Mathlib.Omega.{arith}
 use lib.Dec.{T, leb}
 use lib.ListN.{length, take, drop}
-use lib.Seq.{take_all}
 use borrow.Author.Tests.{leb-true, leb-false}
-use Rattle.text.specs.Utf8.{Bytes}
-use Rattle.path.specs.Path.{Name, pieces}
-use Rattle.path.specs.Backward.{part}
-use Rattle.path.specs.Answer.{PieceIs}
-use Rattle.path.proofs.Cutting.{NoSlash, pieces_no_slash}
-use Rattle.path.proofs.Every.{Every}
+use Rattle.path.specs.Path.{Name}
 use Rattle.model.specs.Tree.{look}
 use Rattle.model.specs.Rules.{name_ok}
 use Rattle.layout.specs.Rows.{name_total}
 use Rattle.layout.specs.Store.{Store, count, live, rows_of, kind_at, state}
 use Rattle.layout.specs.Lawful.{Lawful}
-use Rattle.lawful.specs.Parts.{piece_ok}
-use Rattle.lawful.proofs.KeptPaths.{piece-name}
 use Rattle.layout.specs.Parts.{path_after, Between}
 use Rattle.layout.proofs.Edited.Removing.{begins, rises-behind}
 use Rattle.ask_find.specs.declared.Gap.{Gap}
@@ -35,13 +27,6 @@ use Rattle.std.specs.Prelude.{Result, Ok, Err, IfSome}
 use Rattle.std.specs.Result.{result_ok, result_err}
 use Rattle.ask_find.proofs.Records.{path-rises}
 use Rattle.test_tried.specs.Tried.{Spotted, ChildOf}
-
--- a text whose last piece is all of it has no slash
-pub name-said : (s : Bytes) (a : ℕ) → a ≡ 0 → PieceIs s a (length s) → T (piece_ok s) → T (name_ok s)
-name-said s a z p t =
-    let e : part a (length s) s ≡ s = ap (λ (k : ℕ). part k (length s) s) z ∙ take_all (length s - 0) s (omega arith) in
-    let o : pieces s ≡ s ∷ [] = ap pieces (sym e) ∙ p.one ∙ ap (λ (x : Bytes). x ∷ []) e in
-    piece-name s (subst (Every NoSlash) o (pieces_no_slash s)).0 t
 
 -- the place of a missing entry stands behind its directory: the path before it begins with the directory's
 after-dir : (st : Store) (l : Lawful st) (i k : ℕ) (x : Name) → i < count st → 0 < k → k ≤ count st → Between (kind_at st) (take k (rows_of st)) (drop k (rows_of st)) (path_at st i) x → i < k

@@ -22,10 +22,7 @@ const MOST: usize = MOST_BYTES as usize;
 pub fn name_ok(name: &[u8]) -> bool
     ensures { result ≡ true → T (name_ok name.now) }
 {
-    if path::pieces::piece_start(name, name.len()) != 0 {
-        return false;
-    }
-    lawful::cells::piece_ok(name)
+    !name.contains(&b'/') && lawful::cells::piece_ok(name)
 }
 
 // Whether record i is there, and is a directory's.

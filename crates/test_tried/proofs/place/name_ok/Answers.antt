@@ -1,9 +1,14 @@
--- `name_ok` meets its contract: there is one piece, and it is a name.
+-- `name_ok` meets its contract: a piece with no slash in it is a name.
 -- Assumes nothing.
 use mathlib.Core.Path.{sym, ◌∙◌, subst}
+use native.Mathlib.Omega.{arith}
 use lib.Dec.{T}
-use Rattle.test_tried.proofs.Spots.{name-said}
+use borrow.Author.Tests.{eqb-false}
+use Rattle.path.proofs.Cutting.{no_slash-reads}
+use Rattle.lawful.proofs.KeptPaths.{piece-name}
 use Rattle.test_tried.proofs.place.name_ok.Goals as goal
 
-pub returns : goal.returns
-returns c h = name-said c.args.name.now c.piece_start.result c.if-piece_start-ne0.false c.piece_start.ensures (subst T (sym h ∙ c.piece_ok.ensures) tt)
+pub returns-then-not-contains : goal.returns-then-not-contains
+returns-then-not-contains c h =
+    let s = c.args.name.now in
+    piece-name s (no_slash-reads s (λ k l. eqb-false _ _ (c.if-not-contains.ensures.cases k 0 (omega arith) l))) (subst T (sym h ∙ c.piece_ok.ensures) tt)
