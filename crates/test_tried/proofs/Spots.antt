@@ -53,27 +53,19 @@ spotted st l i h x n g e v = go v.room
     go (between w) = record { after = after-dir st l i g.at x h v.first v.last w; vacant = record { first = v.first; last = v.last; deep = v.deep; name = n; gap = w; missing = e } }
     go (instead a b c w) = absurd (omega (arith, a))
 
--- ---- what `find` answers of a name in the directory at a record
+-- ---- what `look` answers of a name in the directory at a record
 
-module _ (st : Store) (l : Lawful st) (i : ℕ) (d : (i < count st) × (kind_at st (slot_at st i) ≡ 1)) (x : Name) where
-  looked : {o : ℕ} → o ≡ name_total (take i st.records) → (r : Result Spot Gap) → ChildIs (live st) st.bytes (record { at = i; off = o }) x (count st) r
-      → Looks st (count st) (state st).tree (path_at st i) x r
-  looked {o} e r k = k st refl refl l (path_at st i) (state st).tree (at_record st i o d.0 e) (nothing (le_refl (count st)) refl) (dir-told st l i d.0 d.1)
+pub looked : (st : Store) → Lawful st → (i o : ℕ) → i < count st → kind_at st (slot_at st i) ≡ 1 → (x : Name) → o ≡ name_total (take i st.records) → (r : Result Spot Gap)
+    → ChildIs (live st) st.bytes (record { at = i; off = o }) x (count st) r → Looks st (count st) (state st).tree (path_at st i) x r
+looked st l i o h d x e r k = k st refl refl l (path_at st i) (state st).tree (at_record st i o h e) (nothing (le_refl (count st)) refl) (dir-told st l i h d)
 
-  -- its place, if it is missing
-  pub place-found : T (name_ok x) → {o : ℕ} → o ≡ name_total (take i st.records) → (r : Result Spot Gap) → ChildIs (live st) st.bytes (record { at = i; off = o }) x (count st) r
-      → IfSome (result_err r) (λ g. Spotted st i g.at g.depth x)
-  place-found n e r k = go r (looked e r k)
-    where
-      go : (v : Result Spot Gap) → Looks st (count st) (state st).tree (path_at st i) x v → IfSome (result_err v) (λ g. Spotted st i g.at g.depth x)
-      go (Ok s) y = tt
-      go (Err g) y = spotted st l i d.0 x n g y.0 y.1
+-- its place, if it is missing
+pub place-found : (st : Store) → Lawful st → (i : ℕ) → i < count st → (x : Name) → T (name_ok x) → (r : Result Spot Gap) → Looks st (count st) (state st).tree (path_at st i) x r
+    → IfSome (result_err r) (λ g. Spotted st i g.at g.depth x)
+place-found st l i h x n (Ok s) y = tt
+place-found st l i h x n (Err g) y = spotted st l i h x n g y.0 y.1
 
-  -- its record, if it is there
-  pub record-found : {o : ℕ} → o ≡ name_total (take i st.records) → (r : Result Spot Gap) → ChildIs (live st) st.bytes (record { at = i; off = o }) x (count st) r
-      → IfSome (result_ok r) (λ s. ChildOf st i x s.at)
-  record-found e r k = go r (looked e r k)
-    where
-      go : (v : Result Spot Gap) → Looks st (count st) (state st).tree (path_at st i) x v → IfSome (result_ok v) (λ s. ChildOf st i x s.at)
-      go (Ok s) y = record { within = y.at.within; path = y.at.path }
-      go (Err g) y = tt
+-- its record, if it is there
+pub record-found : (st : Store) (i : ℕ) (x : Name) (r : Result Spot Gap) → Looks st (count st) (state st).tree (path_at st i) x r → IfSome (result_ok r) (λ s. ChildOf st i x s.at)
+record-found st i x (Ok s) y = record { within = y.at.within; path = y.at.path }
+record-found st i x (Err g) y = tt

@@ -10,8 +10,7 @@ ghost use Rattle.layout.specs.Lawful.{Lawful, cell_ok};
 ghost use Rattle.test_tried.specs.Tried.{ChildOf, LedTo};
 
 use crate::asked::ready;
-use crate::place::is_dir;
-use ask_find::Spot;
+use crate::place::{is_dir, look};
 use layout::kind::Kind;
 use layout::slices::Slices;
 use layout::{
@@ -26,11 +25,7 @@ fn child(lent: Slices, dir: usize, name: &[u8]) -> Option<usize>
     if !is_dir(lent, dir) {
         return None;
     }
-    let count = lent.words[COUNT_AT] as usize;
-    let off = records::names_to(lent.records, dir);
-    let at = Spot { at: dir, off };
-    let found = ask_find::child(&lent.records[..count], lent.bytes, at, name, count);
-    Some(found.ok()?.at)
+    Some(look(lent, dir, name).ok()?.at)
 }
 
 // The record of the entry at the path, which begins with a slash.

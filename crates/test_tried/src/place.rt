@@ -1,10 +1,11 @@
 // What an insertion asks.
 ghost use Rattle.std.specs.Prelude.{IfSome, true, ◌≡◌, ◌<◌, ◌≤◌, T, length};
 ghost use Rattle.model.specs.Rules.{name_ok};
-ghost use Rattle.layout.specs.Store.{count, kind_at};
+ghost use Rattle.layout.specs.Store.{count, kind_at, state};
 ghost use Rattle.layout.specs.Lent.{lent_by};
 ghost use Rattle.layout.specs.Lawful.{Lawful};
-ghost use Rattle.ask_find.specs.Paths.{slot_at};
+ghost use Rattle.ask_find.specs.Paths.{slot_at, path_at};
+ghost use Rattle.ask_find.specs.Spots.{Looks};
 ghost use Rattle.edit_entry.specs.Made.{bytes_made, Holds};
 ghost use Rattle.edit_entry.specs.Insertion.{Insertable};
 ghost use Rattle.test_tried.specs.Tried.{Spotted};
@@ -37,6 +38,17 @@ pub fn is_dir(lent: Slices, i: usize) -> bool
     kind_of(lent.heads[slot]) == Kind::Directory.code()
 }
 
+// The entry `name` of the directory at record dir, or where it would stand.
+pub(crate) fn look(lent: Slices, dir: usize, name: &[u8]) -> Result<Spot, Gap>
+    requires { Lawful (lent_by lent) × (dir < count (lent_by lent)) × (kind_at (lent_by lent) (slot_at (lent_by lent) dir) ≡ 1) }
+    ensures { let st = lent_by lent.entry in Looks st (count st) (state st).tree (path_at st dir) name.now result }
+{
+    let count = lent.words[COUNT_AT] as usize;
+    let off = records::names_to(lent.records, dir);
+    let at = Spot { at: dir, off };
+    ask_find::child(&lent.records[..count], lent.bytes, at, name, count)
+}
+
 // Where the entry `name` of the directory at record dir would stand, if there is none.
 pub fn spot_in(lent: Slices, dir: usize, name: &[u8]) -> Option<Gap>
     requires { Lawful (lent_by lent) }
@@ -48,10 +60,7 @@ pub fn spot_in(lent: Slices, dir: usize, name: &[u8]) -> Option<Gap>
     if !name_ok(name) {
         return None;
     }
-    let count = lent.words[COUNT_AT] as usize;
-    let off = records::names_to(lent.records, dir);
-    let at = Spot { at: dir, off };
-    ask_find::child(&lent.records[..count], lent.bytes, at, name, count).err()
+    look(lent, dir, name).err()
 }
 
 // What an entry of that kind with those bytes is: 1 is a directory, which has none, 2 a file, 3 a link.

@@ -7,4 +7,4 @@ use Rattle.test_tried.proofs.place.spot_in.Goals as goal
 pub returns : goal.returns
 returns c =
     rw c.err.ensures.value
-    (place-found (lent_by c.args.lent) c.requires c.args.dir (c.is_dir.ensures c.if-not-is_dir.false) c.args.name.now (c.name_ok.ensures c.if-not-name_ok.false) c.names_to-off.ensures _ c.child.ensures)
+    (place-found (lent_by c.args.lent) c.requires c.args.dir (c.is_dir.ensures c.if-not-is_dir.false).0 c.args.name.now (c.name_ok.ensures c.if-not-name_ok.false) _ c.look.ensures)
