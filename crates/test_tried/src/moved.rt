@@ -73,10 +73,9 @@ pub fn try_move(
         paths,
         bytes,
     };
-    let Some(way) = way_to(lent, i, dir, name) else {
+    let Some(Way { end, gap }) = way_to(lent, i, dir, name) else {
         return false;
     };
-    let Way { end, gap } = way;
     edit_entry::moving::move_entry(words, records, bytes, i, end, gap.at, gap.depth, name);
     true
 }

@@ -28,7 +28,7 @@ fn child(lent: Slices, dir: usize, name: &[u8]) -> Option<usize>
     Some(look(lent, dir, name).ok()?.at)
 }
 
-// The record of the entry at the path, which begins with a slash.
+// The record of the entry at the path: an empty path is the root's, any other begins with a slash.
 fn walk(lent: Slices, path: &[u8]) -> Option<usize>
     requires { Lawful (lent_by lent) }
     ensures { IfSome result (λ i. LedTo (lent_by lent.entry) path.now i) }
