@@ -4,9 +4,9 @@ use mathlib.Core.List.{[]}
 use mathlib.Core.Path.{refl, sym}
 use native.Mathlib.Omega.{arith}
 use lib.Seq.{length-take-le}
-use Rattle.edit_room.proofs.Parting.{part-back, part_within}
+use Rattle.edit_room.proofs.Parting.{part_within}
 use Rattle.layout.specs.Store.{lent}
-use Rattle.test_tried.proofs.Asking.{stored}
+use Rattle.test_tried.proofs.Asking.{stored, roomy-again}
 use Rattle.test_tried.proofs.entry.insert_in.Goals as goal
 
 pub reserve-requires : goal.reserve-requires
@@ -27,10 +27,10 @@ pub release-requires : goal.release-requires
 release-requires c =
     let v = c.reserve.ensures (stored c.requires) c.requires in
     let x = c.insert_exact-done in
-    (lent [] x.new.l.1.0 [] x.new.l.1.1.0 c.args.paths.now x.new.l.1.1.1.0, part-back _ _ _ _ _ _ _ _ _ _ _ _ _ v.resized.roomy refl x.auto.heads (omega arith) x.ensures)
+    (lent [] x.new.l.1.0 [] x.new.l.1.1.0 c.args.paths.now x.new.l.1.1.1.0, roomy-again v.resized.roomy x.auto.heads (omega arith) x.ensures)
 
 pub returns : goal.returns
 returns c =
     let v = c.reserve.ensures (stored c.requires) c.requires in
     let x = c.insert_exact-done in
-    (c.release.ensures (lent [] x.new.l.1.0 [] x.new.l.1.1.0 c.args.paths.now x.new.l.1.1.1.0) (part-back _ _ _ _ _ _ _ _ _ _ _ _ _ v.resized.roomy refl x.auto.heads (omega arith) x.ensures)).resized.roomy
+    (c.release.ensures (lent [] x.new.l.1.0 [] x.new.l.1.1.0 c.args.paths.now x.new.l.1.1.1.0) (roomy-again v.resized.roomy x.auto.heads (omega arith) x.ensures)).resized.roomy

@@ -5,8 +5,7 @@ use Rattle.layout.specs.Alike.{HasSlot}
 use Rattle.ask_find.specs.Paths.{path_at}
 use Rattle.ask_find.proofs.Records.{path-slot}
 use Rattle.edit_room.specs.Extents.{trim}
-use Rattle.edit_room.proofs.Parting.{part-back}
-use Rattle.test_tried.proofs.Asking.{stored}
+use Rattle.test_tried.proofs.Asking.{stored, roomy-again}
 use Rattle.test_tried.proofs.slot.contents_in.Goals as goal
 
 pub set_contents-requires : goal.set_contents-requires
@@ -19,4 +18,4 @@ returns c =
     let s = c.in-Some.ensures in
     let x = c.set_contents in
     let z = (x.ensures st l s.2).by_name (path_at st c.args.i) (subst (HasSlot st (path_at st c.args.i)) (sym s.1) (path-slot st l c.args.i s.0)) in
-    part-back _ _ _ _ _ _ _ _ _ _ _ _ _ c.requires refl x.auto.heads refl z.lawful
+    roomy-again c.requires x.auto.heads refl z.lawful

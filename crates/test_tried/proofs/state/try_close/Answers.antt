@@ -3,9 +3,8 @@
 use mathlib.Core.List.{[]}
 use mathlib.Core.Path.{refl}
 use native.Mathlib.Omega.{arith}
-use Rattle.edit_room.proofs.Parting.{part-back}
 use Rattle.layout.specs.Store.{lent}
-use Rattle.test_tried.proofs.Asking.{kept}
+use Rattle.test_tried.proofs.Asking.{kept, roomy-again}
 use Rattle.test_tried.proofs.state.try_close.Goals as goal
 
 pub close_number-requires : goal.close_number-requires
@@ -18,4 +17,4 @@ release-requires c =
     let a = c.args in
     let r = c.ready.ensures c.if-not-ready.false in
     let x = c.close_number in
-    (lent [] a.records.now [] a.times.now a.paths.now x.new.bytes, part-back _ _ _ _ _ _ _ _ _ _ _ _ _ r refl x.auto.heads refl (x.ensures (kept r.lawful) r.lawful).lawful)
+    (lent [] a.records.now [] a.times.now a.paths.now x.new.bytes, roomy-again r x.auto.heads refl (x.ensures (kept r.lawful) r.lawful).lawful)
