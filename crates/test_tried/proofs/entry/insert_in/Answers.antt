@@ -1,11 +1,9 @@
 -- `insert_in` meets its contract: a slot is reserved, and what is left is a store.
 -- Assumes nothing.
-use mathlib.Core.List.{[]}
-use mathlib.Core.Path.{refl, sym}
+use mathlib.Core.Path.{sym}
 use native.Mathlib.Omega.{arith}
 use lib.Seq.{length-take-le}
 use Rattle.edit_room.proofs.Parting.{part_within}
-use Rattle.layout.specs.Store.{lent}
 use Rattle.test_tried.proofs.Asking.{stored, roomy-again}
 use Rattle.test_tried.proofs.entry.insert_in.Goals as goal
 
@@ -27,10 +25,12 @@ pub release-requires : goal.release-requires
 release-requires c =
     let v = c.reserve.ensures (stored c.requires) c.requires in
     let x = c.insert_exact-done in
-    (lent [] x.new.l.1.0 [] x.new.l.1.1.0 c.args.paths.now x.new.l.1.1.1.0, roomy-again v.resized.roomy x.auto.heads (omega arith) x.ensures)
+    let y = roomy-again v.resized.roomy x.auto.heads (omega arith) x.ensures in
+    (stored y, y)
 
 pub returns : goal.returns
 returns c =
     let v = c.reserve.ensures (stored c.requires) c.requires in
     let x = c.insert_exact-done in
-    (c.release.ensures (lent [] x.new.l.1.0 [] x.new.l.1.1.0 c.args.paths.now x.new.l.1.1.1.0) (roomy-again v.resized.roomy x.auto.heads (omega arith) x.ensures)).resized.roomy
+    let y = roomy-again v.resized.roomy x.auto.heads (omega arith) x.ensures in
+    (c.release.ensures (stored y) y).resized.roomy

@@ -1,11 +1,9 @@
 -- `try_root` is safe: the store is lawful, and empty.
 -- Assumes nothing.
-use mathlib.Core.List.{[]}
-use mathlib.Core.Path.{refl, ◌∙◌, sym}
+use mathlib.Core.Path.{◌∙◌, sym}
 use native.Mathlib.Omega.{arith}
 use lib.Seq.{length-take-le}
 use Rattle.edit_room.proofs.Parting.{part_within}
-use Rattle.layout.specs.Store.{lent}
 use Rattle.test_tried.proofs.Asking.{stored, roomy-again}
 use Rattle.test_tried.proofs.entry.try_root.Goals as goal
 
@@ -30,4 +28,5 @@ release-requires c =
     let r = c.ready.ensures c.if-not-ready.false in
     let v = c.reserve.ensures (stored r) r in
     let x = c.insert_root in
-    (lent [] x.new.l.1.0 [] x.new.l.1.1.0 c.args.paths.now x.new.l.1.1.1.0, roomy-again v.resized.roomy x.auto.heads (omega arith) (x.ensures (stored r) v.resized.roomy.lawful).lawful)
+    let y = roomy-again v.resized.roomy x.auto.heads (omega arith) (x.ensures (stored r) v.resized.roomy.lawful).lawful in
+    (stored y, y)

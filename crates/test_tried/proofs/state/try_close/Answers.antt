@@ -1,10 +1,8 @@
 -- `try_close` is safe: the store is lawful, and the number is open.
 -- Assumes nothing.
-use mathlib.Core.List.{[]}
 use mathlib.Core.Path.{refl}
 use native.Mathlib.Omega.{arith}
-use Rattle.layout.specs.Store.{lent}
-use Rattle.test_tried.proofs.Asking.{kept, roomy-again}
+use Rattle.test_tried.proofs.Asking.{stored, kept, roomy-again}
 use Rattle.test_tried.proofs.state.try_close.Goals as goal
 
 pub close_number-requires : goal.close_number-requires
@@ -17,4 +15,5 @@ release-requires c =
     let a = c.args in
     let r = c.ready.ensures c.if-not-ready.false in
     let x = c.close_number in
-    (lent [] a.records.now [] a.times.now a.paths.now x.new.bytes, roomy-again r x.auto.heads refl (x.ensures (kept r.lawful) r.lawful).lawful)
+    let y = roomy-again r x.auto.heads refl (x.ensures (kept r.lawful) r.lawful).lawful in
+    (stored y, y)
