@@ -67,23 +67,19 @@ fn pass(records: &[u64], bytes: &[u8], d: usize, start: Spot, key: u64) -> Spot
     requires { Within records.now bytes.now start }
     ensures { Passed records.now bytes.now d key start result }
 {
-    let mut off = start.off;
-    for at in start.at..records.len() {
-        let w = records[at];
-        let t = depth_of(w);
+    let mut spot = start;
+    for w in &records[start.at..] {
+        let t = depth_of(*w);
         if t <= d {
-            return Spot { at, off };
+            return spot;
         }
-        let less = starts_less(bytes, off, key);
+        let less = starts_less(bytes, spot.off, key);
         if !((t - d != 1) | less) {
-            return Spot { at, off };
+            return spot;
         }
-        off += nlen_of(w);
+        spot = spot.behind(*w);
     }
-    Spot {
-        at: records.len(),
-        off,
-    }
+    spot
 }
 
 // Where the entry `name` of a directory of depth d stands, from a record on. What lies deeper than an entry of the directory is passed
@@ -98,27 +94,23 @@ fn find_from(
     requires { Within records.now bytes.now start }
     ensures { result ≡ scan records.now bytes.now d name.now start }
 {
-    let mut off = start.off;
-    for at in start.at..records.len() {
-        let w = records[at];
-        let t = depth_of(w);
+    let mut spot = start;
+    for w in &records[start.at..] {
+        let t = depth_of(*w);
         if t <= d {
-            return Err(Spot { at, off });
+            return Err(spot);
         }
-        let e = off + nlen_of(w);
+        let next = spot.behind(*w);
         if t - d == 1 {
-            match compare(&bytes[off..e], name) {
+            match compare(&bytes[spot.off..next.off], name) {
                 Ordering::Less => {}
-                Ordering::Equal => return Ok(Spot { at, off }),
-                Ordering::Greater => return Err(Spot { at, off }),
+                Ordering::Equal => return Ok(spot),
+                Ordering::Greater => return Err(spot),
             }
         }
-        off = e;
+        spot = next;
     }
-    Err(Spot {
-        at: records.len(),
-        off,
-    })
+    Err(spot)
 }
 
 // Where the entry `name` of a directory of depth d stands, from the record behind the directory on.
@@ -153,8 +145,7 @@ pub fn child(
     let depth = d + 1;
     match find_child(records, bytes, d, dir.behind(w), name) {
         Ok(spot) if spot.at != hidden => Ok(spot),
-        Ok(spot) => Err(spot.gap(depth)),
-        Err(spot) => Err(spot.gap(depth)),
+        Ok(spot) | Err(spot) => Err(spot.gap(depth)),
     }
 }
 

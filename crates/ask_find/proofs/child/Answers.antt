@@ -1,5 +1,5 @@
 -- `child` meets its contract: the names behind the directory begin where its own ends. Assumes nothing.
-use mathlib.Core.Path.{◌≡◌, sym, ap, ◌∙◌}
+use mathlib.Core.Path.{◌≡◌, ap, ◌∙◌}
 use Prim.Native.Nat.{ℕ, ◌+◌, ◌<◌}
 use native.Mathlib.Omega.{arith}
 use lib.ListN.{take, drop, get_or}
@@ -11,7 +11,7 @@ use Rattle.ask_find.specs.declared.Spot.{Spot}
 use Rattle.ask_find.specs.Finds.{Place, find_in, scan}
 use Rattle.ask_find.proofs.Scan as scanning
 use Rattle.ask_find.proofs.Children.{Ready, ready, asked_is, next_is, depth_is, child-found, child-hidden, child-missing}
-use Rattle.ask_find.proofs.child.Goals.{After-find_child, Start}
+use Rattle.ask_find.proofs.child.Goals.{After-find_child, Start, in-Ok-2-2, in-Ok-2}
 use Rattle.ask_find.proofs.child.Goals as goal
 
 -- what the slices have
@@ -36,12 +36,13 @@ pub find_child-requires : goal.find_child-requires
 find_child-requires c = rw c.behind.ensures (start (goal.at.find_child-requires c).Start 0).within
 
 -- the place that was answered, of a store that has the slices
-told : (c : After-find_child) (w : Place) → c.find_child.result ≡ w → (st : Store) → let s = c.args in live st ≡ s.records.now → st.bytes ≡ s.bytes.now → s.dir.at < count st
+told : (c : After-find_child) (w : Place) → let s = c.args in w ≡ scan s.records.now s.bytes.now c.depth_of-d.result s.name.now c.behind.result
+    → (st : Store) → live st ≡ s.records.now → st.bytes ≡ s.bytes.now → s.dir.at < count st
     → w ≡ find_in (depth_of (get_or st.records s.dir.at 0)) s.name.now (drop (s.dir.at + 1) (rows_of st)) (s.dir.at + 1) (next (goal.at.After-find_child c).Start)
 told c w y st e f h =
     let s = c.args in
     let i = (goal.at.After-find_child c).Start in
-    sym y ∙ c.find_child.ensures
+    y
     ∙ ap (λ (o : Spot). scan s.records.now s.bytes.now c.depth_of-d.result s.name.now o) c.behind.ensures
     ∙ (start i c.depth_of-d.result).same
     ∙ ap (λ (d : ℕ). find_in d s.name.now (drop (s.dir.at + 1) (rows s.records.now s.bytes.now)) (s.dir.at + 1) (next i)) c.depth_of-d.ensures
@@ -59,20 +60,18 @@ returns-in-Ok c =
     let s = c.args in
     let w = (goal.at.returns-in-Ok c).After-find_child in
     let i = (goal.at.returns-in-Ok c).Start in
-    child-found st l s.dir p a s.hidden t d k s.name.now (next i) (offset i st e f l a.within) c.in-Ok.spot.at c.in-Ok.spot.off c.if-spot-hidden.true (told w _ c.in-Ok.is st e f a.within)
+    child-found st l s.dir p a s.hidden t d k s.name.now (next i) (offset i st e f l a.within) c.in-Ok.spot.at c.in-Ok.spot.off c.if-spot-hidden.true (told w _ c.in-Ok.ensures st e f a.within)
 
+-- an entry that is hidden, or missing
 pub returns-in-Ok-2 : goal.returns-in-Ok-2
 returns-in-Ok-2 c =
     λ st e f l p t a d k.
     let s = c.args in
     let w = (goal.at.returns-in-Ok-2 c).After-find_child in
     let i = (goal.at.returns-in-Ok-2 c).Start in
-    rw c.gap.ensures (child-hidden st l s.dir p a s.hidden t d k s.name.now (next i) (offset i st e f l a.within) c.in-Ok.spot.at c.in-Ok.spot.off (c.depth_of-d.result + 1) c.if-spot-hidden.false (told w _ c.in-Ok.is st e f a.within) (deep w st e f a.within))
-
-pub returns-in-Err : goal.returns-in-Err
-returns-in-Err c =
-    λ st e f l p t a d k.
-    let s = c.args in
-    let w = (goal.at.returns-in-Err c).After-find_child in
-    let i = (goal.at.returns-in-Err c).Start in
-    rw c.gap-in-Err.ensures (child-missing st l s.dir p a s.hidden t d k s.name.now (next i) (offset i st e f l a.within) c.in-Err.spot.at c.in-Err.spot.off (c.depth_of-d.result + 1) (told w _ c.in-Err.is st e f a.within) (deep w st e f a.within))
+    let o = offset i st e f l a.within in
+    let n = deep w st e f a.within in
+    rw c.gap.ensures (elim c.in-Ok-2-1.branch [
+      | in-Ok-2-2 v ↦ rw v.spot-is (child-hidden st l s.dir p a s.hidden t d k s.name.now (next i) o v.in-Ok.spot.at v.in-Ok.spot.off (c.depth_of-d.result + 1) v.if-spot-hidden.false (told w _ v.in-Ok.ensures st e f a.within) n)
+      | in-Ok-2 v ↦ rw v.spot-is (child-missing st l s.dir p a s.hidden t d k s.name.now (next i) o v.in-Ok-2.spot.at v.in-Ok-2.spot.off (c.depth_of-d.result + 1) (told w _ v.in-Ok-2.ensures st e f a.within) n)
+    ])
