@@ -40,12 +40,12 @@ fn form(out: &mut [u8], path: &[u8], strike: bool) -> Result<usize, TooLong>
     requires { 1024 ≤ length out.old }
     ensures { Forms (body (sifted strike 0 path.now).kept) out.old out.new result }
 {
-    if let Some((start, end)) = find_plain(path) {
-        if LONGEST_PATH <= end - start {
+    if let Some(names) = find_plain(path) {
+        if LONGEST_PATH <= names.len() {
             return Err(TooLong);
         }
-        put_name(out, 0, &path[start..end]);
-        return Ok(end - start + 1);
+        put_name(out, 0, names);
+        return Ok(names.len() + 1);
     }
     form_mixed(out, path, strike)
 }

@@ -10,16 +10,15 @@ use path::lengths::LONGEST_PATH;
 use path_scan::kept::Kept;
 use path_scan::sifting::drop_names;
 
-// How much of out[..dir], the link's directory, stays before a target that drops `skip` names: nothing before an absolute one.
-fn dir_kept(out: &[u8], dir: usize, target: &[u8], skip: usize) -> usize
-    requires { (dir ≤ length out.now) × (body (names (take dir out.now)) ≡ take dir out.now) }
-    ensures { (result ≤ dir)
-        × (take result out.now ≡ body (drop_n skip (from (names (take dir out.now)) target.now))) }
+// How much of the link's directory stays before a target that drops `skip` names: nothing before an absolute one.
+fn dir_kept(dir: &[u8], target: &[u8], skip: usize) -> usize
+    requires { body (names dir.now) ≡ dir.now }
+    ensures { (result ≤ length dir.now) × (take result dir.now ≡ body (drop_n skip (from (names dir.now) target.now))) }
 {
     if is_absolute(target) {
         return 0;
     }
-    drop_names(out, dir, skip)
+    drop_names(dir, skip)
 }
 
 // out[..dir] is the link's directory and out[rest..len] what stands behind the link's name; of a last link, rest is len.
@@ -37,7 +36,7 @@ pub fn follow(
         out.old out.new result }
 {
     let kept = Kept::measure(target, true, 0);
-    let first = dir_kept(out, dir, target, kept.skip);
+    let first = dir_kept(&out[..dir], target, kept.skip);
     let behind = len - rest;
     if LONGEST_PATH - first < kept.len {
         return Err(TooLong);

@@ -1,9 +1,11 @@
 // What a text keeps: how much, and its names stored. A plain text, as most are, needs no reading from the end.
-ghost use Rattle.std.specs.Prelude.{◌≡◌, ◌+◌, ◌≤◌, length};
+ghost use Rattle.std.specs.Prelude.{◌≡◌, ◌+◌, ◌≤◌, length, IfSome};
 ghost use Rattle.std.proofs.Props.{props};
-ghost use Rattle.path.specs.Answer.{PlainIs, ends_at};
+ghost use Rattle.path.specs.Answer.{ends_at};
 ghost use Rattle.path.specs.Backward.{sifted};
 ghost use Rattle.path.specs.Path.{body};
+ghost use Rattle.path_scan.specs.Measure.{Measured};
+ghost use Rattle.path_scan.specs.Plain.{PlainPart};
 
 use crate::plain::find_plain;
 use crate::sifting::KeptNames;
@@ -20,20 +22,20 @@ pub struct Kept<'a> {
     pub len: usize,
     // How many names before the text are dropped.
     pub skip: usize,
-    // Where the text is plain: the pieces between the two places are all names, and beside them stand at most a slash in front
-    // and one at the end. None: perhaps nowhere.
-    pub plain: Option<(usize, usize)>,
+    // Of a plain text the part whose pieces are all names: beside it stand at most a slash in front and one at the end.
+    pub plain: Option<&'a [u8]>,
     ghost small: { behind ≤ 9223372036854775808 },
     ghost long: { len ≡ length (body (sifted strike behind text.now).kept) },
     ghost drops: { skip ≡ (sifted strike behind text.now).skip },
     ghost few: { skip ≤ behind + length text.now + 1 },
-    ghost stands: { PlainIs plain strike behind text.now } by { Prim.hlevel props },
+    ghost stands: { IfSome plain (λ names. PlainPart names.now strike behind text.now) } by { Prim.hlevel props },
 }
 
 impl<'a> Kept<'a> {
     pub fn measure(text: &'a [u8], strike: bool, behind: usize) -> Self
         requires { behind ≤ 9223372036854775808 }
-        ensures { (result.text.now ≡ text.now) × (result.strike ≡ strike) × (result.behind ≡ behind) }
+        ensures given { (result.text.now ≡ text.now) × (result.strike ≡ strike) × (result.behind ≡ behind) }
+        ensures measured { Measured strike behind text.now result.len result.skip }
     {
         if text.is_empty() {
             return Self {
@@ -46,14 +48,14 @@ impl<'a> Kept<'a> {
             };
         }
         if behind == 0 {
-            if let Some((start, end)) = find_plain(text) {
+            if let Some(names) = find_plain(text) {
                 return Self {
                     text,
                     strike,
                     behind,
-                    len: end - start + 1,
+                    len: names.len() + 1,
                     skip: 0,
-                    plain: Some((start, end)),
+                    plain: Some(names),
                 };
             }
         }
@@ -63,10 +65,12 @@ impl<'a> Kept<'a> {
     // The same of any text, read from its end.
     pub fn read_back(text: &'a [u8], strike: bool, behind: usize) -> Self
         requires { behind ≤ 9223372036854775808 }
-        ensures { (result.text.now ≡ text.now) × (result.strike ≡ strike) × (result.behind ≡ behind) }
+        ensures given { (result.text.now ≡ text.now) × (result.strike ≡ strike) × (result.behind ≡ behind) }
+        ensures measured { Measured strike behind text.now result.len result.skip }
     {
         let mut names = KeptNames::new(text, strike, behind);
         let mut len = 0;
+        // kept: what a `for` over `&mut names` leaves in them, `skip` too, no proof knows behind it (tried).
         while let Some((start, end)) = names.next() {
             len += end - start + 1;
         }
@@ -88,8 +92,8 @@ impl<'a> Kept<'a> {
         if self.text.is_empty() {
             return;
         }
-        if let Some((start, stop)) = self.plain {
-            put_name(out, end - self.len, &self.text[start..stop]);
+        if let Some(names) = self.plain {
+            put_name(out, end - self.len, names);
             return;
         }
         self.put_back(out, end);

@@ -1,26 +1,14 @@
 // A text whose pieces are all names, as most are: it needs no reading from the end.
-ghost use Rattle.std.specs.Prelude.{◌≡◌, Bool, true, ◌≤◌, ◌<◌, length, get_or, IfSome};
-ghost use Rattle.path.specs.Answer.{AllNames, Clean, EndIs, PlainIs};
+ghost use Rattle.std.specs.Prelude.{◌≡◌, Bool, true, ◌<◌, length, IfSome};
+ghost use Rattle.path.specs.Answer.{AllNames, Clean};
+ghost use Rattle.path_scan.specs.Plain.{PlainPart, TrimIs};
 
-// Where the text begins, but for one slash in front.
-fn text_start(s: &[u8]) -> usize
-    ensures { (result ≤ 1) × (0 < result → get_or s.now 0 0 ≡ 47) }
+// The text but for a slash in front and one at its end.
+fn trimmed(s: &[u8]) -> &[u8]
+    ensures { TrimIs s.now result.now }
 {
-    match s {
-        [b'/', ..] => 1,
-        _ => 0,
-    }
-}
-
-// Where the text ends, but for one slash at its end.
-#[tactic(auto, using(path::proofs::Following::ends))]
-fn text_end(s: &[u8]) -> usize
-    ensures { EndIs s.now result }
-{
-    match s {
-        [.., b'/'] => s.len() - 1,
-        _ => s.len(),
-    }
+    let behind = s.strip_prefix(b"/").unwrap_or(s);
+    behind.strip_suffix(b"/").unwrap_or(behind)
 }
 
 // Whether no slash has a slash or a dot behind it.
@@ -49,16 +37,11 @@ fn all_names(s: &[u8]) -> bool
     clean(s)
 }
 
-// The places between which the pieces of the text are all names, where beside them stand at most a slash in front and one at
-// the end. None: perhaps the text is not so.
-pub fn find_plain(s: &[u8]) -> Option<(usize, usize)>
-    ensures bounds { IfSome result (λ p. (p.0 ≤ p.1) × (p.1 ≤ length s.now)) }
-    ensures plain { (strike : Bool) → PlainIs result strike 0 s.now }
+// The part of the text whose pieces are all names, where beside it stand at most a slash in front and one at the end. None: perhaps
+// the text is not so.
+pub fn find_plain(s: &[u8]) -> Option<&[u8]>
+    ensures { (strike : Bool) → IfSome result (λ names. PlainPart names.now strike 0 s.now) }
 {
-    let start = text_start(s);
-    let end = text_end(s);
-    match s.get(start..end) {
-        Some(names) if all_names(names) => Some((start, end)),
-        _ => None,
-    }
+    let names = trimmed(s);
+    all_names(names).then_some(names)
 }

@@ -70,17 +70,17 @@ pub fn last_kept(s: &[u8], behind: usize) -> Result<(usize, usize), usize>
     names.next().ok_or(names.skip)
 }
 
-// The length of s[..have], a path of the working buffers, without its last k names.
-pub fn drop_names(s: &[u8], have: usize, k: usize) -> usize
-    requires { (have ≤ length s.now) × (body (names (take have s.now)) ≡ take have s.now) }
-    ensures { (result ≤ have) × (take result s.now ≡ body (drop_n k (names (take have s.now)))) }
+// The length of a path of the working buffers without its last k names.
+pub fn drop_names(path: &[u8], k: usize) -> usize
+    requires { body (names path.now) ≡ path.now }
+    ensures { (result ≤ length path.now) × (take result path.now ≡ body (drop_n k (names path.now))) }
 {
-    let mut h = have;
+    let mut h = path.len();
     for _ in 0..k {
         if h == 0 {
             return 0;
         }
-        h = piece_start(s, h) - 1;
+        h = piece_start(path, h) - 1;
     }
     h
 }

@@ -1,10 +1,11 @@
--- `sifting::drop_names` meets its contract. The loop's invariant: s[..h] is the text of some names, and what is asked is these
+-- `sifting::drop_names` meets its contract. The loop's invariant: path[..h] is the text of some names, and what is asked is these
 -- without as many of their last as there are turns left.
 use mathlib.Core.List.{drop_last}
 use mathlib.Core.Path.{◌≡◌, sym, ap, ◌∙◌}
 use Prim.Native.Nat.{ℕ, ◌+◌, ◌-◌, ◌<◌, zero-le}
 use native.Mathlib.Omega.{arith}
 use lib.ListN.{take}
+use lib.Seq.{take-length}
 use Rattle.path.specs.Path.{names, body}
 use Rattle.path.specs.Backward.{drop_n}
 use Rattle.path.proofs.Cutting.{NoSlash}
@@ -16,7 +17,7 @@ use Rattle.path_scan.proofs.sifting.drop_names.Goals as goal
 pub loop-init : goal.loop-init
 loop-init c =
     let z : c.args.k ≡ c.args.k - 0 = omega arith in
-    (names _, names_no_slash _, omega arith, sym c.requires.1, ap (λ (j : ℕ). drop_n j (names (take c.args.have c.args.s.now))) z)
+    (names _, names_no_slash _, omega arith, take-length _ ∙ sym c.requires, ap (λ (j : ℕ). drop_n j (names c.args.path.now)) z)
 
 pub returns-then-h-eq0 : goal.returns-then-h-eq0
 returns-then-h-eq0 c =
@@ -25,7 +26,7 @@ returns-then-h-eq0 c =
 
 -- a turn drops the last name
 stepped : (c : After-piece_start-h)
-    → (0 < c.piece_start-h.result) × (take (c.piece_start-h.result - 1) c.args.s.now ≡ body (drop_last c.loop.invariant.0))
+    → (0 < c.piece_start-h.result) × (take (c.piece_start-h.result - 1) c.args.path.now ≡ body (drop_last c.loop.invariant.0))
 stepped c =
     let l = c.loop in
     drop-step _ l.h c.piece_start-h.result l.invariant.0 (omega arith) (omega arith) l.invariant.1 l.invariant.3 c.piece_start-h.ensures.last

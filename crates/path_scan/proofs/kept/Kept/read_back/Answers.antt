@@ -1,12 +1,14 @@
 -- `Kept::read_back` meets its contract. The loop's invariant: what was read keeps names whose text is `len` long.
 use mathlib.Core.List.{[], ◌∷◌}
-use mathlib.Core.Path.{refl, ◌∙◌}
+use mathlib.Core.Path.{refl, sym, ap, ◌∙◌}
 use native.Mathlib.Omega.{arith}
-use Rattle.std.specs.Prelude.{Some}
-use Rattle.path.specs.Backward.{part}
+use lib.ListN.{length}
+use Rattle.std.specs.Prelude.{Some, None}
+use Rattle.path.specs.Path.{body}
+use Rattle.path.specs.Backward.{Sifted, part}
 use Rattle.path.specs.Answer.{NextIs}
 use Rattle.path.proofs.Cutting.{part_length}
-use Rattle.path.proofs.Reading.{read_none, read-next, next_same, body_none, body-cons-length}
+use Rattle.path.proofs.Reading.{read_none, read-next, read_end, next_same, body_none, body-cons-length}
 use Rattle.path_scan.proofs.kept.Kept.read_back.Goals.{In-Some, In_default}
 use Rattle.path_scan.proofs.kept.Kept.read_back.Goals as goal
 
@@ -36,3 +38,10 @@ loop-start-preserved c =
       omega (arith, n.1, w.4, body-cons-length name w.0, part_length c.in-Some.start c.in-Some.end a.text.now (omega (arith, n.2, w.3.room))),
       omega (arith, n.0, n.1, n.2, w.5),
     )
+
+pub returns-clause-measured : goal.returns-clause-measured
+returns-clause-measured c =
+    let a = c.args in let l = c.loop-start in let n = l.names in let t = c.next.new.self in let w = l.invariant in
+    let e = read_end _ _ _ n.rest n.skip w.0 w.3 t.rest t.skip
+    (next_same n.strike a.strike n.text.now a.text.now n.rest n.rest n.skip n.skip None t.rest t.skip w.1 w.2 refl refl c.in_default.ensures.steps.2) in
+    record { long = w.4 ∙ sym (ap (λ (z : Sifted). length (body z.kept)) e.0); drops = sym (ap (λ (z : Sifted). z.skip) e.0); few = e.1 }
