@@ -39,7 +39,7 @@ pub fn read_link_at(
         End::Found(_, _) => Err(Refusal::WrongKind),
         End::Missing(_, _) => Err(Refusal::NotFound),
         End::LastLink(spot, _) => {
-            let target = store::contents(tree.words, tree.records, tree.heads, tree.bytes, spot);
+            let target = store::contents(tree, spot);
             put_bytes(out, number, target)?;
             *links = walked.links as u64;
             Ok(())
@@ -78,7 +78,7 @@ pub fn read_at(
     if there.kind != Kind::File {
         return Err(Refusal::WrongKind);
     }
-    let contents = store::contents(tree.words, tree.records, tree.heads, tree.bytes, there.spot);
+    let contents = store::contents(tree, there.spot);
     put_bytes(out, number, contents)?;
     *links = there.links as u64;
     Ok(())

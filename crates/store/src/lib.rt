@@ -4,7 +4,7 @@ ghost use Rattle.std.proofs.Math.Option.{some};
 ghost use Rattle.std.specs.Prelude.{◌≡◌, take, get_or};
 ghost use Rattle.layout.specs.Numbers.{count_at, extent_at};
 ghost use Rattle.layout.specs.Kinds.{kind_from};
-ghost use Rattle.layout.specs.Lent.{◌∘◌, with_words, with_records, with_heads, with_bytes, still, with_times, with_paths};
+ghost use Rattle.layout.specs.Lent.{◌∘◌, with_words, with_records, with_heads, with_bytes, with_tree, still, with_times, with_paths};
 ghost use Rattle.layout.specs.Lent.{◌&◌, with_times, with_paths};
 ghost use Rattle.model.specs.Prog.{kind?, stat?, bare?, mask?};
 ghost use Rattle.model.specs.Calls.States.{world_of};
@@ -14,6 +14,7 @@ ghost use Rattle.store.specs.Shows.{Of, OfEntry, Some, SomeEntry, says, NumberIs
 use ask_entry::Stat;
 use ask_find::{Gap, Spot};
 use layout::kind::Kind;
+use layout::slices::Tree;
 use layout::{COUNT_AT, EXTENT_AT, MASK_AT};
 
 pub mod listing;
@@ -82,18 +83,16 @@ pub fn stat(words: &[u64], records: &[u64], heads: &[u64], times: &[i64], spot: 
 }
 
 // The contents of the file, or the target of the link, at the spot.
-pub fn contents<'a>(
-    words: &[u64],
-    records: &[u64],
-    heads: &[u64],
-    bytes: &'a [u8],
-    spot: Spot,
-) -> &'a [u8]
-    requires { Some (with_words words.now ∘ with_records records.now ∘ with_heads heads.now ∘ with_bytes bytes.now) }
-    ensures { OfEntry (still (with_words words.now ∘ with_records records.now ∘ with_heads heads.now ∘ with_bytes bytes.now)) spot
-        (λ s p. Contents (world_of s) p result.now) }
+pub fn contents<'a>(tree: Tree<'a>, spot: Spot) -> &'a [u8]
+    requires { Some (with_tree tree) }
+    ensures { OfEntry (still (with_tree tree.entry)) spot (λ s p. Contents (world_of s) p result.now) }
 {
-    ask_entry::entry_contents(records, in_use(words, heads), bytes, spot)
+    ask_entry::entry_contents(
+        tree.records,
+        in_use(tree.words, tree.heads),
+        tree.bytes,
+        spot,
+    )
 }
 
 // Whether the directory at the spot is empty.

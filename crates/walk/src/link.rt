@@ -22,6 +22,6 @@ pub fn behind_link(
     requires { SomeLink (with_tree tree) (take len out.old) spot dir rest × (len ≤ 1024) × (1024 ≤ length out.old) }
     ensures { FollowsIn (still (with_tree tree.entry)) (take len out.old) spot dir rest out.new result }
 {
-    let target = store::contents(tree.words, tree.records, tree.heads, tree.bytes, spot);
+    let target = store::contents(tree, spot);
     follow(out, dir, rest, len, target)
 }
