@@ -17,23 +17,26 @@ use Rattle.model.specs.Operations.Contents.{read_at}
 use Rattle.model.specs.Operations.Shows.{metadata_at, symlink_metadata_at, read_link_at, list_at}
 use Rattle.model.specs.Calls.Performing.{settle, result_number, program}
 use Rattle.model.specs.Buffers.{Outputs, outputs_after}
-use Rattle.std.specs.Prelude.{Ok, Err}
-use Rattle.refusal.specs.Numbers.{number_of}
+use Rattle.std.specs.Prelude.{Result, Ok, Err}
+use Rattle.std.specs.Result.{IsErrAnd}
+use Rattle.refusal.specs.Numbers.{number_of, answered}
 use Rattle.refusal.specs.declared.Refusal.{Refusal}
 use Rattle.refusal.specs.declared.Refusal.TheVariants as is
 use Rattle.layout.specs.Store.{Store, core}
+use Rattle.layout.specs.Lent.{lent_by}
+use Rattle.layout.specs.declared.slices.Slices.{Slices}
 use Rattle.layout.specs.Lawful.{Passes, Sized}
 use Rattle.layout.specs.Answers.{Lent, call_of, read_back, Answers}
 use Rattle.model.specs.Buffers.{cleared}
-use Rattle.store.specs.Shows.{Shows}
+use Rattle.store.specs.Shows.{Shows, Some}
 use Rattle.op.specs.declared.begin.Sort.{Sort}
 use Rattle.op.specs.declared.begin.Sort.TheVariants as sort
 use Rattle.op.specs.Doing.{Does, Done}
 use Rattle.walk.specs.Meets.{PathIn}
 use Rattle.op.specs.Beginning.{taken, Stops, screened, Begins, broken, tested, formed}
 use Rattle.op.specs.Parts.{cut, sizes_of}
-use Rattle.op.proofs.Cutting.{shows-cut, Returned, not_written}
-use Rattle.op.proofs.Doing.{does-refused, done-broken, done-screened, done-does}
+use Rattle.op.proofs.Cutting.{shows-cut, shows_as, Returned, not_written}
+use Rattle.op.proofs.Doing.{does-refused, done-broken, done-screened, done-does, done-err}
 
 -- programs with one run come to the same
 pub same_run : {p q : Prog Reply} {s : State} {u : Store} {o after : Outputs} {r : ℕ} → run p (world_of s) ≡ run q (world_of s) → Does q s u o after r → Does p s u o after r
@@ -145,6 +148,22 @@ module _ (l : Lent) (st : Store) {o : Sort} {path : Bytes} {f : ℕ → Path →
   pub done-asked : {out : Bytes} {n : ℕ} → Begins st l.first l.second o path out (Ok n) → (u : Store) → u ≡ cut st → (to : Outputs) (r : ℕ) → Does (f bound (names (take n out))) s u l.outputs to r
       → Done l st st to r
   done-asked b u e to r d = done_at b u st to r d (subst (λ (x : Store). Returned (sizes_of st) st x st) (sym e) (not_written st)) (begins-passes b).2
+
+-- ---- the same of a shell: the tests, and an operation that makes no edit, over the parts that the limits ask
+
+module _ {l : Lent} {st : Store} {o : Sort} {path out : Bytes} where
+  pub shell-refused : {f : ℕ → Path → Prog Reply} → Takes l.op o path f → (r : Result Unit Refusal) (e : Refusal) → IsErrAnd r (λ y. y ≡ e) → Begins st l.first l.second o path out (Err e)
+      → Done l st st l.outputs (answered r)
+  shell-refused t r e x b = done-err r e x (done_refused l st t b)
+
+  pub shell-asked : {f : ℕ → Path → Prog Reply} → Takes l.op o path f → {n : ℕ} → Begins st l.first l.second o path out (Ok n) → {has : Store → Store} (u : Slices) → has (lent_by u) ≡ cut st → {to : Outputs} {r : ℕ}
+      → ((v : Store) (s : State) → Shows (has v) s → Does (f (links_in s.tree) (names (take n out))) s (has v) l.outputs to r) → Done l st st to r
+  shell-asked t b u e d = done-asked l st t b _ e _ _ (d (lent_by u) (read_back st) (shows_as e (shows-cut st (begins-passes b))))
+
+-- what the operation asks
+pub shell-requires : {st : Store} {first second : Bytes} {o : Sort} {path out : Bytes} {n : ℕ} → Begins st first second o path out (Ok n) → {has : Store → Store} (v : Store) → has v ≡ cut st
+    → Some has × PathIn out n
+shell-requires {st = st} b v e = ((v, read_back st, shows_as e (shows-cut st (begins-passes b))), begins-path b)
 
 -- and both working buffers are cleared
 pub answers : {l : Lent} {st after : Store} {to : Outputs} {r q : ℕ} → Done l st after to r → {first second : Bytes} → first ≡ cleared l.first → second ≡ cleared l.second → q ≡ r

@@ -3,11 +3,13 @@
 -- Assumes nothing.
 use mathlib.Core.List.{List, [], ◌++◌}
 use mathlib.Core.Path.{◌≡◌, refl, sym, ap, ◌∙◌, subst}
-use Prim.Native.Nat.{ℕ, ◌+◌, ◌*◌, ◌≤◌, ◌<◌, ◌^◌}
+use Prim.Native.Nat.{ℕ, ◌+◌, ◌*◌, ◌≤◌}
 use native.Mathlib.Omega.{arith}
 use lib.Dec.{T}
 use lib.IntN.{ℤ, pos}
 use lib.ListN.{length, take, drop, get_or, length-append, length-drop}
+use mir.Syntax.{w8, w64}
+use mir.Val.{Fits}
 use lib.Seq.{get_or-take, take-take, length-take-le, take-append_seam, drop-append_seam}
 use Rattle.text.specs.Utf8.{Bytes}
 use Rattle.model.proofs.Alike.States.{alike_refl}
@@ -167,11 +169,11 @@ module _ (st u after : Store) (p : Passes st) (b : Returned (sizes_of st) st u a
   behind-now = same_store b.words.rest b.records.rest b.heads.rest b.times.rest b.paths.rest b.bytes.rest
 
   -- what the slices hold, where the times are as they were
-  pub sized-kept : after.times ≡ st.times → ((i : ℕ) → get_or after.words i 0 < 2 ^ 64) → ((i : ℕ) → get_or after.heads i 0 < 2 ^ 64) → ((i : ℕ) → get_or after.bytes i 0 < 256)
+  pub sized-kept : after.times ≡ st.times → ((i : ℕ) → Fits w64 (get_or after.words i 0)) → ((i : ℕ) → Fits w64 (get_or after.heads i 0)) → ((i : ℕ) → Fits w8 (get_or after.bytes i 0))
       → Sized (core after)
   unfolding time_ok
   sized-kept e ws hs bs =
-      let x = sized-cut (lent after.words after.records after.heads [] after.paths after.bytes) ws hs (λ i. tt) bs in
+      let x = sized-cut (lent after.words after.records after.heads [] after.paths after.bytes) (λ i. (ws i).fits) (λ i. (hs i).fits) (λ i. tt) (λ i. (bs i).fits) in
       record {
         words = x.words;
         heads = x.heads;

@@ -23,6 +23,8 @@ use Rattle.model.proofs.Demand.Keeping.{kept_all}
 use Rattle.model.proofs.Space.Room.{room-settles, decided_no}
 use Rattle.model.proofs.Space.States.{Uses}
 use Rattle.std.specs.Prelude.{Result, Err}
+use Rattle.std.specs.Result.{IsErrAnd}
+use Rattle.std.proofs.lemmas.Result.{err_from_is_err_and}
 use Rattle.refusal.specs.Numbers.{number_of, answered}
 use Rattle.refusal.specs.declared.Refusal.{Refusal}
 use Rattle.layout.specs.Store.{Store, state, core}
@@ -94,9 +96,18 @@ module _ (p : Prog Reply) (s : State) where
 pub does-left : {p : Prog Reply} {s : State} {u v : Store} {o after : Outputs} {r : ℕ} → u ≡ v → Does p s u o after r → Does p s v o after r
 does-left {p = p} {s = s} {o = o} {after = after} {r = r} e d = subst (λ (x : Store). Does p s x o after r) e d
 
--- a refusal that is passed on
-pub does-err : {p : Prog Reply} {s : State} {u : Store} {o after : Outputs} {r : Result Unit Refusal} {e : Refusal} → r ≡ Err e → Does p s u o after (number_of e) → Does p s u o after (answered r)
-does-err {p = p} {s = s} {u = u} {o = o} {after = after} x d = subst (λ (k : Result Unit Refusal). Does p s u o after (answered k)) (sym x) d
+-- A refusal that `?` passes on: what holds of the refusal holds of what is returned.
+pub passed_on : {A : Type 0} {r : Result A Refusal} {e : Refusal} → IsErrAnd r (λ y. y ≡ e) → (P : Result A Refusal → Type 0) → P (Err e) → P r
+passed_on {r = r} x P d = let p = err_from_is_err_and r x in subst P (sym (p.1 ∙ ap (λ (y : Refusal). Err y) p.2)) d
+
+pub does-err : {p : Prog Reply} {s : State} {u : Store} {o after : Outputs} (r : Result Unit Refusal) (e : Refusal) → IsErrAnd r (λ y. y ≡ e) → Does p s u o after (number_of e)
+    → Does p s u o after (answered r)
+does-err {p = p} {s = s} {u = u} {o = o} {after = after} r e x d = passed_on x (λ (k : Result Unit Refusal). Does p s u o after (answered k)) d
+
+-- and the program is refused so
+pub does-passed : {p : Prog Reply} {s : State} {st : Store} {o : Outputs} (r : Result Unit Refusal) (e : Refusal) → IsErrAnd r (λ y. y ≡ e) → Shows st s → run p (world_of s) ≡ refused (number_of e)
+    → Does p s st o o (answered r)
+does-passed {p = p} {s = s} {st = st} {o = o} r e x h d = does-err r e x (does-refused p s st h o (number_of e) d)
 
 -- ---- the whole call
 
@@ -140,5 +151,5 @@ module _ (l : Lent) (st : Store) (p : Passes st) where
       carried u after out r (settled whole at) (ap (λ (k : ℕ). decide_by k at (settled whole at)) (sym e)) d.number d.answer d.shows b z
 
 -- a refusal that is passed on
-pub done-err : {l : Lent} {st after : Store} {out : Outputs} {r : Result Unit Refusal} {e : Refusal} → r ≡ Err e → Done l st after out (number_of e) → Done l st after out (answered r)
-done-err {l = l} {st = st} {after = after} {out = out} x d = subst (λ (k : Result Unit Refusal). Done l st after out (answered k)) (sym x) d
+pub done-err : {l : Lent} {st after : Store} {out : Outputs} (r : Result Unit Refusal) (e : Refusal) → IsErrAnd r (λ y. y ≡ e) → Done l st after out (number_of e) → Done l st after out (answered r)
+done-err {l = l} {st = st} {after = after} {out = out} r e x d = passed_on x (λ (k : Result Unit Refusal). Done l st after out (answered k)) d

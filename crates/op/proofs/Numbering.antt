@@ -4,8 +4,10 @@ use mathlib.Core.Bool.{Bool, true, false, ◌&&◌}
 use mathlib.Core.List.{[]}
 use mathlib.Core.Option.{Option, none, some}
 use mathlib.Core.Path.{◌≡◌, refl, sym, ap, ◌∙◌}
-use Prim.Native.Nat.{ℕ, ◌≤◌, ◌<◌, ◌^◌}
+use Prim.Native.Nat.{ℕ, ◌≤◌}
 use lib.ListN.{get_or}
+use mir.Syntax.{w8, w64}
+use mir.Val.{Fits}
 use native.Mathlib.Omega.{arith}
 use lib.Dec.{leb}
 use borrow.Author.Tests.{leb-true}
@@ -26,14 +28,15 @@ use Rattle.refusal.specs.declared.Refusal.{Refusal}
 use Rattle.layout.specs.Store.{Store, core}
 use Rattle.layout.specs.Lawful.{Passes, Sized}
 use Rattle.layout.specs.Answers.{Lent, call_of, read_back, Answers}
-use Rattle.store.specs.Shows.{says}
+use Rattle.store.specs.Shows.{Shows, says}
 use Rattle.op.specs.declared.ready.Number.{Number}
 use Rattle.op.specs.declared.ready.Number.TheVariants as number
 use Rattle.op.specs.Doing.{Does, Done}
 use Rattle.op.specs.Lending.{call_with}
 use Rattle.op.specs.Testing.{Work, work_of, walks, given_by, screen_of, Tested, broken, passing}
-use Rattle.op.specs.Parts.{sizes_of}
-use Rattle.op.proofs.Cutting.{Returned, sized-kept}
+use Rattle.op.specs.declared.parts.Sizes.{Sizes}
+use Rattle.op.specs.Parts.{sizes_of, SizesOf}
+use Rattle.op.proofs.Cutting.{shows-cut, shows_as, cut_by, cut_alike, Returned, returned_alike, sized-kept}
 use Rattle.op.proofs.Doing.{done-broken, done-screened, done-does}
 use Rattle.op.proofs.Calling.{same_run, not-zero, answers}
 
@@ -151,8 +154,29 @@ module _ {c : Op} {o : Outputs} (st : Store) {m : Number} {p : ℕ → Prog Repl
       → Sized (core after) → r ≡ q → Answers (call_with c o [] []) st after to [] [] r
   answers-done t d b y x = answers (number-done (call_with c o [] []) st k refl t _ _ _ _ d b y) refl refl x
 
-  -- that leaves the times
+-- and of one that leaves the times
+module _ {c : Op} {o : Outputs} {st : Store} {m : Number} {p : ℕ → Prog Reply} (k : Numbers c None m p) where
   pub answers-changed : Tested st None [] m (Ok tt) → {u after : Store} {to : Outputs} {q r : ℕ} → Does (p (links_in (read_back st).tree)) (read_back st) u o to q → Returned (sizes_of st) st u after
-      → after.times ≡ st.times → ((i : ℕ) → get_or after.words i 0 < 2 ^ 64) → ((i : ℕ) → get_or after.heads i 0 < 2 ^ 64) → ((i : ℕ) → get_or after.bytes i 0 < 256) → r ≡ q
+      → after.times ≡ st.times → ((i : ℕ) → Fits w64 (get_or after.words i 0)) → ((i : ℕ) → Fits w64 (get_or after.heads i 0)) → ((i : ℕ) → Fits w8 (get_or after.bytes i 0)) → r ≡ q
       → Answers (call_with c o [] []) st after to [] [] r
-  answers-changed t d b f ws hs bs x = answers-done t d b (sized-kept st _ _ (tested-passes t) b d.shows.roomy.lawful f ws hs bs) x
+  answers-changed t d b f ws hs bs x = answers-done st k t d b (sized-kept st _ _ (tested-passes t) b d.shows.roomy.lawful f ws hs bs) x
+
+-- ---- an operation over the parts that the limits ask: where the tests pass, they show the state that is read back, in which the number is open
+
+module _ {st : Store} {n : Sizes} {w : Work} {k : ℕ} (z : SizesOf st n) (t : Tested st w [] (number.Opened k) (Ok tt)) where
+  pub open-shows : Shows (cut_by n st) (read_back st)
+  open-shows = shows_as (cut_alike z) (shows-cut st (tested-passes t))
+
+  -- what it asks
+  pub open-cut : {had : Store → Store} → had (cut_by n st) ≡ cut_by n st → (v : Store) × (s : State) × Shows (had v) s × ((o : Position) × (says (open? k) s ≡ some o))
+  open-cut e = (cut_by n st, read_back st, shows_as e open-shows, tested-open t)
+
+-- and what the call comes to, where the times are left
+pub answers-open : {c : Op} {o : Outputs} {st : Store} {n : Sizes} {i : ℕ} {p : ℕ → Prog Reply} → Numbers c None (number.Opened i) p → SizesOf st n → Tested st None [] (number.Opened i) (Ok tt)
+    → {had has : Store → Store} {to : Outputs} {q r : ℕ} → had (cut_by n st) ≡ cut_by n st
+    → ((v : Store) (s : State) → Shows (had v) s → (x : Position) × (says (open? i) s ≡ some x) → Does (p (links_in s.tree)) s (has v) o to q)
+    → {after : Store} → Returned n st (has (cut_by n st)) after → after.times ≡ st.times
+    → ((i : ℕ) → Fits w64 (get_or after.words i 0)) → ((i : ℕ) → Fits w64 (get_or after.heads i 0)) → ((i : ℕ) → Fits w8 (get_or after.bytes i 0)) → r ≡ q
+    → Answers (call_with c o [] []) st after to [] [] r
+answers-open {st = st} {n = n} k z t e d b f ws hs bs x =
+    answers-changed k t (d (cut_by n st) (read_back st) (shows_as e (open-shows z t)) (tested-open t)) (returned_alike z b) f ws hs bs x

@@ -1,15 +1,10 @@
 -- What an answer leaves in what a call is lent, for each sort of answer.
 -- Assumes nothing.
-use mathlib.Core.List.{◌++◌}
-use mathlib.Core.Path.{◌≡◌, refl, ap, ◌∙◌}
-use Prim.Native.Nat.{ℕ, ◌+◌}
-use native.Mathlib.Omega.{arith}
-use lib.ListN.{length, drop}
-use lib.Seq.{paste, take-length}
-use Rattle.text.specs.Utf8.{Bytes}
-use Rattle.model.specs.Operations.Steps.{plain_reply, number_reply, bytes_reply}
-use Rattle.model.specs.Buffers.{row_numbers, in_front, written}
-use Rattle.op.specs.Lending.{in_bytes, in_links, in_number, in_nothing}
+use mathlib.Core.Path.{◌≡◌, refl}
+use Prim.Native.Nat.{ℕ}
+use Rattle.model.specs.Operations.Steps.{plain_reply, number_reply}
+use Rattle.model.specs.Buffers.{row_numbers, written}
+use Rattle.op.specs.Lending.{in_links, in_number}
 
 pub links-written : (c k : ℕ) → in_links c ≡ written (plain_reply c) (in_links k)
 unfolding row_numbers

@@ -10,7 +10,9 @@ use Rattle.path.specs.Path.{names, render}
 use Rattle.model.specs.Tree.{Path}
 use Rattle.model.specs.Prog.{mask?, answer}
 use Rattle.model.specs.Calls.States.{State, entries_used, bytes_used}
-use Rattle.std.specs.Prelude.{Some, None, Result, Err}
+use Rattle.std.specs.Prelude.{Some, None, Result}
+use Rattle.std.specs.Result.{IsErrAnd}
+use Rattle.op.proofs.Doing.{passed_on}
 use Rattle.refusal.specs.Numbers.{number_of, answered}
 use Rattle.refusal.specs.declared.Refusal.{Refusal}
 use Rattle.layout.specs.Store.{Store, most, room}
@@ -44,8 +46,8 @@ usage-told st s h l copied mask entries used n c e f g =
 -- ---- file numbers
 
 -- a refusal that is passed on
-pub number-err : {s : State} {n : ℕ} {o after : Slot} {r : Result Unit Refusal} {e : Refusal} → r ≡ Err e → NumberIs n o after (number_of e) s → NumberIs n o after (answered r) s
-number-err {s = s} {n = n} {o = o} {after = after} x h = subst (λ (k : Result Unit Refusal). NumberIs n o after (answered k) s) (sym x) h
+pub number-err : {s : State} {n : ℕ} {o after : Slot} (r : Result Unit Refusal) (e : Refusal) → IsErrAnd r (λ y. y ≡ e) → NumberIs n o after (number_of e) s → NumberIs n o after (answered r) s
+number-err {s = s} {n = n} {o = o} {after = after} r e x h = passed_on x (λ (k : Result Unit Refusal). NumberIs n o after (answered k) s) h
 
 pub number-closed : {s : State} {n : ℕ} {out : Bytes} {position size : ℕ} → store.NumberIs s n None → NumberIs n (in_slot out position size) (in_slot out position size) 4 s
 number-closed h = closed h refl refl

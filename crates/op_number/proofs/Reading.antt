@@ -1,7 +1,7 @@
 -- Read and seek by a number that is open: its position and its bytes are told, so the program goes on with them, and what it comes to is
 -- the edit that moves the position.
 -- Assumes nothing.
-use Rattle.std.proofs.Common.{◌≡◌, ℕ, ◌+◌, ◌^◌, ◌<◌, ◌≤◌, ◌++◌, length, take, drop, sym, refl, ap, ◌∙◌, arith, length-drop, length-take}
+use Rattle.std.proofs.Common.{◌≡◌, ℕ, ◌+◌, ◌++◌, length, take, drop, sym, refl, ap, ◌∙◌}
 use mathlib.Core.Option.{Option, some}
 use Rattle.std.specs.Prelude as Prelude
 use Rattle.std.specs.Option.{unwrap_or}

@@ -3,10 +3,9 @@
 use Prim.Native.Nat.{◌≤◌}
 use lib.ListN.{length}
 use lib.Seq.{length-take-le}
-use Rattle.std.proofs.Common.{◌≡◌, rules, arith, sym}
-use Rattle.std.specs.Prelude.{Err}
+use Rattle.std.proofs.Common.{arith, sym}
 use Rattle.layout.specs.Lent.{with_records, with_heads, with_paths, with_bytes}
-use Rattle.op.proofs.Doing.{does-refused, does-done, does-err}
+use Rattle.op.proofs.Doing.{does-done, does-passed}
 use Rattle.op.proofs.Leading.{led-front, led-kind}
 use Rattle.op.proofs.Writing.{links-written}
 use Rattle.op.proofs.Naming.{shown-named, short-front, cell_of}
@@ -29,8 +28,7 @@ slice_bounds-go-end-2 c = sym (length-take-le _ _ (fits (goal.at.slice_bounds-go
 
 pub returns-in_err-there : goal.returns-in_err-there
 returns-in_err-there c =
-    let e : c.from_residual.result ≡ Err c.in_err-there.field-0.0 = search rules in
-    λ st s h. does-err e (does-refused _ s _ h _ _ (current-refused _ (c.in_err-there.ensures (with_paths c.args.paths.now st) s h)))
+    λ st s h. does-passed _ _ c.from_residual.ensures.1 h (current-refused _ (c.in_err-there.ensures (with_paths c.args.paths.now st) s h))
 
 pub go-requires : goal.go-requires
 go-requires c =

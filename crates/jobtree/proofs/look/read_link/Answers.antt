@@ -1,25 +1,16 @@
 -- `read_link` meets its contract: how the call begins, and what the operation comes to over the parts that the limits ask.
 -- Assumes nothing.
-use Rattle.std.proofs.Common.{◌≡◌, rules, ◌∙◌}
-use Rattle.std.specs.Prelude.{Err}
-use Rattle.layout.specs.Answers.{read_back}
+use Rattle.std.proofs.Common.{◌∙◌}
 use Rattle.layout.specs.Lent.{lent_by}
-use Rattle.op.proofs.Cutting.{shows-cut, shows_as, with_its_tree}
-use Rattle.op.proofs.Doing.{done-err}
-use Rattle.op.proofs.Calling.{read-link-takes, begins-passes, begins-path, done_refused, done-asked}
+use Rattle.op.proofs.Cutting.{with_its_tree}
+use Rattle.op.proofs.Calling.{read-link-takes, shell-refused, shell-requires, shell-asked}
 use Rattle.jobtree.proofs.look.read_link.Goals as goal
 
 pub returns-in_err-n : goal.returns-in_err-n
-returns-in_err-n c =
-    let e : c.from_residual.result ≡ Err c.in_err-n.field-0.0 = search rules in
-    done-err e (done_refused _ _ (read-link-takes _ _) c.in_err-n.ensures)
+returns-in_err-n c = shell-refused (read-link-takes _ _) _ _ c.from_residual.ensures.1 c.in_err-n.ensures
 
 pub read_link_at-requires : goal.read_link_at-requires
-read_link_at-requires c =
-    let b = c.in_ok-n.ensures in let u = c.used.result in
-    ((lent_by u, read_back (lent_by c.args.lent), shows_as (with_its_tree u c.tree_of.ensures ∙ c.used.ensures) (shows-cut _ (begins-passes b))), begins-path b)
+read_link_at-requires c = let u = c.used.result in shell-requires c.in_ok-n.ensures (lent_by u) (with_its_tree u c.tree_of.ensures ∙ c.used.ensures)
 
 pub returns : goal.returns
-returns c =
-    let b = c.in_ok-n.ensures in let u = c.used.result in let e = with_its_tree u c.tree_of.ensures ∙ c.used.ensures in
-    done-asked _ _ (read-link-takes _ _) b _ e _ _ (c.read_link_at.ensures (lent_by u) (read_back (lent_by c.args.lent)) (shows_as e (shows-cut _ (begins-passes b))))
+returns c = let u = c.used.result in shell-asked (read-link-takes _ _) c.in_ok-n.ensures u (with_its_tree u c.tree_of.ensures ∙ c.used.ensures) c.read_link_at.ensures

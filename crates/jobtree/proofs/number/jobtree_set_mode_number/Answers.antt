@@ -1,25 +1,18 @@
 -- `jobtree_set_mode_number` meets its contract: the tests, and what the operation comes to over the parts that the limits ask.
 -- Assumes nothing.
-use Rattle.std.proofs.Common.{refl, arith}
-use Rattle.layout.specs.Answers.{read_back}
-use Rattle.layout.specs.Lent.{lends}
-use Rattle.op.proofs.Cutting.{shows-cut, shows_as, cut_by, cut_alike, as_was, put_back, returned_alike}
-use Rattle.op.proofs.Numbering.{mode-numbers, tested-passes, tested-open, answers-refused, answers-changed}
+use Rattle.std.proofs.Common.{refl}
+use Rattle.op.proofs.Cutting.{as_was, put_back}
+use Rattle.op.proofs.Numbering.{mode-numbers, answers-refused, answers-open, open-cut}
 use Rattle.jobtree.proofs.number.jobtree_set_mode_number.Goals as goal
 
 pub set_mode_on-requires : goal.set_mode_on-requires
-set_mode_on-requires c =
-    let a = c.args in let st = lends a.words.now a.records.now a.heads.now a.times.now a.paths.now a.bytes.now in
-    let t = c.in-Ok.ensures in let z = c.of-used.ensures in
-    (cut_by c.of-used.result st, read_back st, shows_as (cut_alike z) (shows-cut st (tested-passes t)), tested-open t)
+set_mode_on-requires c = open-cut c.of-used.ensures c.in-Ok.ensures refl
 
 pub returns-in-Err : goal.returns-in-Err
 returns-in-Err c = answers-refused _ (mode-numbers _ _) c.in-Err.ensures c.number.ensures
 
 pub returns-in-Ok : goal.returns-in-Ok
 returns-in-Ok c =
-    let a = c.args in let st = lends a.words.now a.records.now a.heads.now a.times.now a.paths.now a.bytes.now in
-    let t = c.in-Ok.ensures in let z = c.of-used.ensures in
-    let d = c.set_mode_on.ensures (cut_by c.of-used.result st) (read_back st) (shows_as (cut_alike z) (shows-cut st (tested-passes t))) (tested-open t) in
-    answers-changed st (mode-numbers _ _) t d (returned_alike z (record { words = as_was _ _; records = as_was _ _; heads = put_back z.heads c.set_mode_on.auto.heads; times = as_was _ _; paths = as_was _ _; bytes = as_was _ _ }))
-    refl (λ i. omega (arith, c.type_inv.words i)) (λ i. omega (arith, c.type_inv.heads i)) (λ i. omega (arith, c.type_inv.bytes i)) c.answer.ensures
+    let z = c.of-used.ensures in
+    answers-open (mode-numbers _ _) z c.in-Ok.ensures refl c.set_mode_on.ensures (record { words = as_was _ _; records = as_was _ _; heads = put_back z.heads c.set_mode_on.auto.heads; times = as_was _ _; paths = as_was _ _; bytes = as_was _ _ })
+    refl c.type_inv.words c.type_inv.heads c.type_inv.bytes c.answer.ensures

@@ -1,7 +1,6 @@
 -- `metadata_number` meets its contract: the tests, and what the operation comes to over the parts that the limits ask.
 -- Assumes nothing.
-use Rattle.std.proofs.Common.{◌≡◌, rules, refl}
-use Rattle.std.specs.Prelude.{Err}
+use Rattle.std.proofs.Common.{refl}
 use Rattle.layout.specs.Answers.{read_back}
 use Rattle.layout.specs.Lent.{lent_by}
 use Rattle.op.proofs.Cutting.{shows-cut, shows_as, not_written}
@@ -10,9 +9,7 @@ use Rattle.op.proofs.Numbering.{metadata-numbers, tested-passes, tested-open, te
 use Rattle.jobtree.proofs.number.metadata_number.Goals as goal
 
 pub returns-in_err-ready : goal.returns-in_err-ready
-returns-in_err-ready c =
-    let e : c.from_residual.result ≡ Err c.in_err-ready.field-0.0 = search rules in
-    done-err e (number-refused _ _ (metadata-numbers _ _ _ _) refl c.in_err-ready.ensures)
+returns-in_err-ready c = done-err _ _ c.from_residual.ensures.1 (number-refused _ _ (metadata-numbers _ _ _ _) refl c.in_err-ready.ensures)
 
 pub metadata_on-requires : goal.metadata_on-requires
 metadata_on-requires c =

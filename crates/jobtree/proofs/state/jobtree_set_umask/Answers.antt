@@ -1,6 +1,6 @@
 -- `jobtree_set_umask` meets its contract: the tests, and what the operation comes to over the parts that the limits ask.
 -- Assumes nothing.
-use Rattle.std.proofs.Common.{refl, arith}
+use Rattle.std.proofs.Common.{refl}
 use Rattle.layout.specs.Answers.{read_back}
 use Rattle.layout.specs.Lent.{lends}
 use Rattle.op.specs.Parts.{cut}
@@ -20,6 +20,6 @@ pub returns-in-Ok : goal.returns-in-Ok
 returns-in-Ok c =
     let a = c.args in let st = lends a.words.now a.records.now a.heads.now a.times.now a.paths.now a.bytes.now in
     let t = c.in-Ok.ensures in let p = tested-passes t in
-    answers-changed st (umask-numbers _) t (c.set_umask_to.ensures (cut st) (read_back st) (shows-cut st p))
+    answers-changed (umask-numbers _) t (c.set_umask_to.ensures (cut st) (read_back st) (shows-cut st p))
     (record { words = put_back p.0.words c.set_umask_to.auto.words; records = as_was _ _; heads = as_was _ _; times = as_was _ _; paths = as_was _ _; bytes = as_was _ _ })
-    refl (λ i. omega (arith, c.type_inv.words i)) (λ i. omega (arith, c.type_inv.heads i)) (λ i. omega (arith, c.type_inv.bytes i)) c.answer.ensures
+    refl c.type_inv.words c.type_inv.heads c.type_inv.bytes c.answer.ensures

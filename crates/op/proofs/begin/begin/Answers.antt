@@ -1,20 +1,16 @@
 -- `begin` meets its contract: a test that fails, or what the path comes to in the state that is read back.
 -- Assumes nothing.
-use mathlib.Core.Path.{◌≡◌, sym, subst}
-use Rattle.std.proofs.Common.{rules}
-use Rattle.std.specs.Prelude.{Err}
 use Rattle.layout.specs.Answers.{read_back}
 use Rattle.layout.specs.Lent.{lent_by}
 use Rattle.op.specs.Beginning.{Begins, formed}
 use Rattle.op.specs.Parts.{cut}
 use Rattle.op.proofs.Beginning.{enough, begin-refused, begin-passes}
 use Rattle.op.proofs.Cutting.{shows-cut}
+use Rattle.op.proofs.Doing.{passed_on}
 use Rattle.op.proofs.begin.begin.Goals as goal
 
 pub returns-in_err-ready : goal.returns-in_err-ready
-returns-in_err-ready c =
-    let e : c.from_residual.result ≡ Err c.in_err-ready.field-0.0 = search rules in
-    subst (Begins _ _ _ _ _ _) (sym e) (begin-refused _ _ _ c.in_err-ready.ensures)
+returns-in_err-ready c = passed_on c.from_residual.ensures.1 (Begins _ _ _ _ _ _) (begin-refused _ _ _ c.in_err-ready.ensures)
 
 pub form-requires : goal.form-requires
 form-requires c = let a = c.args in enough a.first.now a.second.now a.path.now (read_back (lent_by a.lent)) (begin-passes _ _ _ c.in_ok-ready.ensures).1

@@ -1,14 +1,12 @@
 -- `form` meets its contract, by how the path is taken.
 -- Assumes nothing.
-use mathlib.Core.Path.{◌≡◌, sym, subst}
+use mathlib.Core.Path.{◌≡◌}
 use native.Mathlib.Omega.{arith}
 use lib.ListN.{length}
-use Rattle.std.proofs.Common.{rules}
-use Rattle.std.specs.Prelude.{Err}
 use Rattle.op.specs.Beginning.{Stops}
-use Rattle.refusal.specs.declared.Refusal.TheVariants.{PathTooLong}
 use Rattle.op.specs.declared.begin.Sort.TheVariants.{Named}
 use Rattle.op.proofs.Beginning.{given_none, as_taken, stops_at, stops-long}
+use Rattle.op.proofs.Doing.{passed_on}
 use Rattle.op.proofs.begin.form.Goals.{In_default, in_default-via-in-Named+else-path-eq0, in_default-via-in_default}
 use Rattle.op.proofs.begin.form.Goals as goal
 
@@ -21,8 +19,7 @@ filled c e z = elim c.in_default.branch [ in_default-via-in-Named+else-path-eq0 
 
 pub returns-in_err-absolute_in-in_default : goal.returns-in_err-absolute_in-in_default
 returns-in_err-absolute_in-in_default c =
-    let e : c.from_residual.result ≡ Err PathTooLong = search rules in
-    λ st s h. subst (Stops s _ _ _) (sym e) (as_taken s _ _ _ _ (filled (goal.at.returns-in_err-absolute_in-in_default c).In_default) (stops-long (c.in_err-absolute_in-in_default.ensures st s h)))
+    λ st s h. passed_on c.from_residual.ensures.1 (Stops s _ _ _) (as_taken s _ _ _ _ (filled (goal.at.returns-in_err-absolute_in-in_default c).In_default) (stops-long (c.in_err-absolute_in-in_default.ensures st s h)))
 
 pub returns-in_ok-absolute_in-in_default : goal.returns-in_ok-absolute_in-in_default
 returns-in_ok-absolute_in-in_default c = λ st s h. as_taken s _ _ _ _ (filled (goal.at.returns-in_ok-absolute_in-in_default c).In_default) (stops_at (c.in_ok-absolute_in-in_default.ensures st s h) (omega (arith, c.absolute_in.auto.out)))

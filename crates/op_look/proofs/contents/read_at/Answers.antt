@@ -1,14 +1,13 @@
 -- `read_at` meets its contract, by what the lookup came to.
 -- Assumes nothing.
 use denote.Enum.Bare.{differs_true, differs_false}
-use Rattle.std.proofs.Common.{◌≡◌, rules, refl, sym}
+use Rattle.std.proofs.Common.{rules, refl, sym}
 use Rattle.layout.specs.contracts.kind.Kind.{the_type}
-use Rattle.std.specs.Prelude.{Err}
 use Prim.Native.Nat.{◌≤◌}
 use native.Mathlib.Omega.{arith}
 use lib.ListN.{length}
 use Rattle.op.proofs.Calling.{not-zero}
-use Rattle.op.proofs.Doing.{does-refused, does-err}
+use Rattle.op.proofs.Doing.{does-refused, does-err, does-passed}
 use Rattle.op_look.proofs.Reading.{bytes-refused, bytes-told, as_looked, read-refused, read-no-name, read-missing, read-root, read-wrong, read-file}
 use Rattle.op_look.proofs.contents.read_at.Goals.{After-lookup}
 use Rattle.op_look.proofs.contents.read_at.Goals as goal
@@ -19,8 +18,7 @@ room c = omega (arith, c.requires.1.room, c.lookup.auto.work)
 
 pub returns-in_err-looked : goal.returns-in_err-looked
 returns-in_err-looked c =
-    let e : c.from_residual.result ≡ Err c.in_err-looked.field-0.0 = search rules in
-    λ st s h. does-err e (does-refused _ s _ h _ _ (read-refused _ (c.in_err-looked.ensures st s h)))
+    λ st s h. does-passed _ _ c.from_residual.ensures.1 h (read-refused _ (c.in_err-looked.ensures st s h))
 
 pub returns-then-absent-eq0 : goal.returns-then-absent-eq0
 returns-then-absent-eq0 c = λ st s h. does-refused _ s _ h _ _ (read-no-name _ (as_looked c.in-Missing.is (c.in_ok-looked.ensures st s h)) c.if-absent-eq0.true)
@@ -38,8 +36,7 @@ returns-then-ne c =
 
 pub returns-in_err-put_bytes : goal.returns-in_err-put_bytes
 returns-in_err-put_bytes c =
-    let e : c.from_residual-in_err-put_bytes.result ≡ Err c.in_err-put_bytes.field-0.0 = search rules in
-    λ st s h. does-err e (let l = as_looked c.in-Found.is (c.in_ok-looked.ensures st s h) in
+    λ st s h. does-err _ _ c.from_residual-in_err-put_bytes.ensures.1 (let l = as_looked c.in-Found.is (c.in_ok-looked.ensures st s h) in
     bytes-refused _ s _ h _ _ _ _ _ _ _ _
     (read-file _ l c.if-there-eq0.false (room (goal.at.returns-in_err-put_bytes c).After-lookup) (differs_false the_type (search rules) _ _ (sym c.if-ne.ensures)) _ (c.contents-contents.ensures st s h _ l.place.1.at))
     c.in_err-put_bytes.ensures (not-zero _))

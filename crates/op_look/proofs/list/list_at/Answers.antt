@@ -2,12 +2,11 @@
 -- Assumes nothing.
 use native.Mathlib.Omega.{arith}
 use denote.Enum.Bare.{differs_true, differs_false}
-use Rattle.std.proofs.Common.{◌≡◌, rules, sym}
-use Rattle.std.specs.Prelude.{Err}
+use Rattle.std.proofs.Common.{rules, sym}
 use Rattle.layout.specs.contracts.kind.Kind.{the_type}
 use Rattle.layout.specs.Lent.{◌∘◌, with_tree, with_times}
 use Rattle.store.specs.Shows.{SomeEntry}
-use Rattle.op.proofs.Doing.{does-refused, does-told, does-err}
+use Rattle.op.proofs.Doing.{does-refused, does-told, does-passed}
 use Rattle.op.proofs.Leading.{led-stands}
 use Rattle.op_look.proofs.Lists.{list_written, list-refused, list-kind, list-names, list-rows, list-told}
 use Rattle.op_look.proofs.list.list_at.Goals.{In_ok-there}
@@ -15,8 +14,7 @@ use Rattle.op_look.proofs.list.list_at.Goals as goal
 
 pub returns-in_err-there : goal.returns-in_err-there
 returns-in_err-there c =
-    let e : c.from_residual.result ≡ Err c.in_err-there.field-0.0 = search rules in
-    λ st s h. does-err e (does-refused _ s _ h _ _ (list-refused _ _ _ (c.in_err-there.ensures (with_times c.args.times.now st) s h)))
+    λ st s h. does-passed _ _ c.from_residual.ensures.1 h (list-refused _ _ _ (c.in_err-there.ensures (with_times c.args.times.now st) s h))
 
 pub returns-then-ne : goal.returns-then-ne
 returns-then-ne c = λ st s h. does-refused _ s _ h _ _ (list-kind _ _ _ (c.in_ok-there.ensures (with_times c.args.times.now st) s h) (differs_true the_type _ _ (sym c.if-ne.ensures)))

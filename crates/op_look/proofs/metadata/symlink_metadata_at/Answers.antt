@@ -1,10 +1,9 @@
 -- `symlink_metadata_at` meets its contract, by what the walk ended in.
 -- Assumes nothing.
-use Rattle.std.proofs.Common.{◌≡◌, rules, refl}
-use Rattle.std.specs.Prelude.{Err}
+use Rattle.std.proofs.Common.{refl}
 use Rattle.layout.specs.Lent.{with_times, with_bytes}
 use Rattle.op.proofs.Calling.{not-zero}
-use Rattle.op.proofs.Doing.{does-refused, does-err}
+use Rattle.op.proofs.Doing.{does-refused, does-err, does-passed}
 use Rattle.op_look.proofs.Showing.{row-refused, row-shown}
 use Rattle.op_look.proofs.Ending.{AtEnd, an_entry, a_last_link, end_stands, symlink-refused, symlink-missing, symlink-there}
 use Rattle.op_look.proofs.metadata.symlink_metadata_at.Goals.{in-Found, in-LastLink, After-show}
@@ -12,8 +11,7 @@ use Rattle.op_look.proofs.metadata.symlink_metadata_at.Goals as goal
 
 pub returns-in_err-walked : goal.returns-in_err-walked
 returns-in_err-walked c =
-    let e : c.from_residual.result ≡ Err c.in_err-walked.field-0.0 = search rules in
-    λ st s h. does-err e (does-refused _ s _ h _ _ (symlink-refused (c.in_err-walked.ensures (with_times c.args.times.now st) s h) _))
+    λ st s h. does-passed _ _ c.from_residual.ensures.1 h (symlink-refused (c.in_err-walked.ensures (with_times c.args.times.now st) s h) _)
 
 pub returns-in-Missing : goal.returns-in-Missing
 returns-in-Missing c = λ st s h. does-refused _ s _ h _ _ (symlink-missing (c.in_ok-walked.ensures (with_times c.args.times.now st) s h) _ c.in-Missing.is)
@@ -29,8 +27,7 @@ show-requires c =
 
 pub returns-in_err-show : goal.returns-in_err-show
 returns-in_err-show c =
-    let e : c.from_residual-in_err-show.result ≡ Err c.in_err-show.field-0.0 = search rules in
-    λ st s h. does-err e (let a = c.args in let l = c.in_ok-walked.ensures (with_times a.times.now st) s h in let x = at (goal.at.returns-in_err-show c).After-show in
+    λ st s h. does-err _ _ c.from_residual-in_err-show.ensures.1 (let a = c.args in let l = c.in_ok-walked.ensures (with_times a.times.now st) s h in let x = at (goal.at.returns-in_err-show c).After-show in
     row-refused _ s _ h _ _ _ _ _ _ (symlink-there l _ x) (c.in_err-show.ensures (with_bytes a.tree.bytes.now st) s h _ (end_stands l x)) (not-zero _))
 
 pub returns : goal.returns

@@ -1,7 +1,6 @@
 -- `set_length_on` meets its contract: there is no room, or one edit.
 -- Assumes nothing.
-use Rattle.std.proofs.Common.{◌≡◌, rules, sym}
-use Rattle.std.specs.Prelude.{Err}
+use Rattle.std.proofs.Common.{sym}
 use Rattle.layout.specs.Lent.{with_records, with_bytes}
 use Rattle.op.proofs.Calling.{not-zero}
 use Rattle.op.proofs.Doing.{does-err}
@@ -10,9 +9,8 @@ use Rattle.op_number.proofs.attributes.set_length_on.Goals as goal
 
 pub returns-in_err-room_for : goal.returns-in_err-room_for
 returns-in_err-room_for c =
-    let e : c.from_residual.result ≡ Err c.in_err-room_for.field-0.0 = search rules in
     λ st s h o. let a = c.args in
-    does-err e (resize-full _ s h _ _ _ o (c.held-len.ensures (with_records a.records.now st) s h) _ (c.in_err-room_for.ensures (with_bytes a.bytes.now st) s h) (not-zero _))
+    does-err _ _ c.from_residual.ensures.1 (resize-full _ s h _ _ _ o (c.held-len.ensures (with_records a.records.now st) s h) _ (c.in_err-room_for.ensures (with_bytes a.bytes.now st) s h) (not-zero _))
 
 pub held-len-requires : goal.held-len-requires
 held-len-requires c = let p = c.requires in (with_records c.args.records.now p.0, p.1, p.2)

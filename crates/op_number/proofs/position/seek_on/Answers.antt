@@ -1,7 +1,5 @@
 -- `seek_on` meets its contract, by where the seek leads.
 -- Assumes nothing.
-use Rattle.std.proofs.Common.{◌≡◌, rules}
-use Rattle.std.specs.Prelude.{Err}
 use Rattle.layout.specs.Lent.{with_heads, with_bytes}
 use Rattle.op.proofs.Doing.{does-err}
 use Rattle.store_edit.proofs.Entering.{open_at}
@@ -10,9 +8,8 @@ use Rattle.op_number.proofs.position.seek_on.Goals as goal
 
 pub returns-in_err-place : goal.returns-in_err-place
 returns-in_err-place c =
-    let e : c.from_residual.result ≡ Err c.in_err-place.field-0.0 = search rules in
     λ st s h o. let a = c.args in let v = with_heads a.heads.now (with_bytes a.bytes.now st) in
-    does-err e (does-nowhere s a.n _ _ o (c.held.ensures st s h) (c.position.ensures v s h) _ _ _ _ h _ c.in_err-place.ensures)
+    does-err _ _ c.from_residual.ensures.1 (does-nowhere s a.n _ _ o (c.held.ensures st s h) (c.position.ensures v s h) _ _ _ _ h _ c.in_err-place.ensures)
 
 pub seek-requires : goal.seek-requires
 seek-requires c = let p = c.requires in let a = c.args in ((with_heads a.heads.now (with_bytes a.bytes.now p.0), p.1, p.2), (open_at _ p.1 p.2 a.n p.3).0)
