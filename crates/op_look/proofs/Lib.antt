@@ -3,3 +3,4 @@ pub mod Ending
 pub mod Reading
 pub mod Listing
 pub mod Lists
+pub mod Differing

@@ -16,7 +16,9 @@ use Rattle.model.specs.Operations.Shows.{stats_of}
 use Rattle.model.specs.Calls.States.{State}
 use Rattle.model.specs.Buffers.{stat_numbers, row_numbers, in_front}
 use Rattle.model.proofs.Entries.{some_inj}
-use Rattle.layout.specs.Store.{Store, lent}
+use Rattle.layout.specs.Store.{Store}
+use Rattle.layout.specs.Lent.{◌∘◌, with_tree, with_times}
+use Rattle.layout.specs.declared.slices.Tree.{Tree}
 use Rattle.ask_find.specs.declared.Spot.{Spot}
 use Rattle.ask_entry.specs.declared.Stat as shown
 use Rattle.ask_entry.specs.Reads.{stat_from}
@@ -97,9 +99,9 @@ module _ (st : Store) (s : State) (p : Path) (l : List (Name × Stat)) (first : 
 
 -- ---- in all states that a store with the slices shows
 
--- a store with these four slices
-abbrev pub four : List ℕ → List ℕ → List ℕ → List ℤ → Store → Store
-four words records heads times st = lent words records heads times st.paths st.bytes
+-- a store with those that hold the tree, and these times
+abbrev pub five : Tree → List ℤ → Store → Store
+five t times = with_tree t ∘ with_times times
 
 -- some list of entries begins with the step, and the row holds a record of each
 pub record Held (has : Store → Store) (start : Option Spot) (rows : List ℤ) : Type 0 where

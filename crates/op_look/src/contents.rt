@@ -89,7 +89,7 @@ pub fn put_path(out: &mut [u8], number: &mut u64, path: &[u8]) -> Result<(), Ref
     requires { Plain path.now }
     ensures { PutIs (render (names path.now)) out.old number.old out.new number.new (answered result) }
 {
-    if path.len() == 0 {
+    if path.is_empty() {
         return put_bytes(out, number, b"/");
     }
     put_bytes(out, number, path)

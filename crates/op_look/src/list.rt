@@ -4,7 +4,7 @@ ghost use Rattle.path.specs.Path.{names};
 ghost use Rattle.model.specs.Tree.{links_in};
 ghost use Rattle.model.specs.Operations.Shows.{list_at};
 ghost use Rattle.refusal.specs.Numbers.{answered};
-ghost use Rattle.layout.specs.Lent.{◌∘◌, with_tree, with_words, with_records, with_heads, with_times, still};
+ghost use Rattle.layout.specs.Lent.{◌∘◌, with_tree, with_times, still};
 ghost use Rattle.store.specs.Shows.{Some, OfEntry};
 ghost use Rattle.op.specs.Lending.{in_both};
 ghost use Rattle.op.specs.Doing.{Answered};
@@ -19,26 +19,17 @@ use op::record::{NUMBERS, put_record};
 use refusal::Refusal;
 
 // The records of the entries of the directory at the spot, one behind the other, in front of the row.
-// kept: lent the four slices that a record is made of, of which the bytes are none.
-fn put_records(
-    words: &[u64],
-    records: &[u64],
-    heads: &[u64],
-    times: &[i64],
-    rows: &mut [i64],
-    spot: Spot,
-)
-    requires { SomeRows (with_words words.now ∘ with_records records.now ∘ with_heads heads.now ∘ with_times times.now) spot rows.old }
-    ensures { OfEntry (still (with_words words.now ∘ with_records records.now ∘ with_heads heads.now ∘ with_times times.now)) spot
-        (λ s p. RowsPut s p rows.old rows.new) }
+fn put_records(tree: Tree, times: &[i64], rows: &mut [i64], spot: Spot)
+    requires { SomeRows (with_tree tree ∘ with_times times.now) spot rows.old }
+    ensures { OfEntry (still (with_tree tree.entry ∘ with_times times.now)) spot (λ s p. RowsPut s p rows.old rows.new) }
 {
     let mut at = 0;
-    let mut step = store::listing::first(words, records, spot);
+    let mut step = store::listing::first(tree.words, tree.records, spot);
     while let Some(entry) = step {
-        let s = store::stat(words, records, heads, times, entry);
+        let s = store::stat(tree.words, tree.records, tree.heads, times, entry);
         put_record(rows, at, s);
         at += NUMBERS;
-        step = store::listing::next(words, records, entry);
+        step = store::listing::next(tree.words, tree.records, entry);
     }
 }
 
@@ -72,7 +63,7 @@ pub fn list_at(
         return Err(Refusal::ShortBuffer);
     }
     store::listing::put_names(out, words, records, tree.bytes, spot);
-    put_records(words, records, tree.heads, times, rows, spot);
+    put_records(tree, times, rows, spot);
     *number = count as u64;
     *links = there.links as u64;
     Ok(())

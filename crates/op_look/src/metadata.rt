@@ -4,7 +4,7 @@ ghost use Rattle.path.specs.Path.{names};
 ghost use Rattle.model.specs.Tree.{links_in};
 ghost use Rattle.model.specs.Operations.Shows.{metadata_at, symlink_metadata_at};
 ghost use Rattle.refusal.specs.Numbers.{answered};
-ghost use Rattle.layout.specs.Lent.{◌∘◌, with_tree, with_words, with_records, with_heads, with_times, still};
+ghost use Rattle.layout.specs.Lent.{◌∘◌, with_tree, with_times, still};
 ghost use Rattle.store.specs.Shows.{Some, SomeEntry};
 ghost use Rattle.op.specs.Lending.{in_rows};
 ghost use Rattle.op.specs.Doing.{Answered};
@@ -19,20 +19,11 @@ use refusal::Refusal;
 use walk::End;
 
 // The record of the entry at the spot, in front of the row; or 14.
-// kept: lent the four slices that a record is made of, of which the bytes are none.
-fn show(
-    words: &[u64],
-    records: &[u64],
-    heads: &[u64],
-    times: &[i64],
-    rows: &mut [i64],
-    spot: Spot,
-) -> Result<(), Refusal>
-    requires { SomeEntry (with_words words.now ∘ with_records records.now ∘ with_heads heads.now ∘ with_times times.now) spot }
-    ensures { RowAt (still (with_words words.now ∘ with_records records.now ∘ with_heads heads.now
-        ∘ with_times times.now)) spot rows.old rows.new (answered result) }
+fn show(tree: Tree, times: &[i64], rows: &mut [i64], spot: Spot) -> Result<(), Refusal>
+    requires { SomeEntry (with_tree tree ∘ with_times times.now) spot }
+    ensures { RowAt (still (with_tree tree.entry ∘ with_times times.now)) spot rows.old rows.new (answered result) }
 {
-    let s = store::stat(words, records, heads, times, spot);
+    let s = store::stat(tree.words, tree.records, tree.heads, times, spot);
     if rows.len() < NUMBERS {
         return Err(Refusal::ShortBuffer);
     }
@@ -56,14 +47,7 @@ pub fn metadata_at(
         (in_rows rows.old links.old) (in_rows rows.new links.new) (answered result) }
 {
     let there = leads(tree, work, len)?;
-    show(
-        tree.words,
-        tree.records,
-        tree.heads,
-        times,
-        rows,
-        there.spot,
-    )?;
+    show(tree, times, rows, there.spot)?;
     *links = there.links as u64;
     Ok(())
 }
@@ -89,7 +73,7 @@ pub fn symlink_metadata_at(
         End::Found(spot, _) => spot,
         End::LastLink(spot, _) => spot,
     };
-    show(tree.words, tree.records, tree.heads, times, rows, spot)?;
+    show(tree, times, rows, spot)?;
     *links = walked.links as u64;
     Ok(())
 }

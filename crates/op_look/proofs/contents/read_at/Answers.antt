@@ -1,13 +1,12 @@
 -- `read_at` meets its contract, by what the lookup came to.
 -- Assumes nothing.
-use denote.Enum.Bare.{differs_true, differs_false}
-use Rattle.std.proofs.Common.{rules, refl, sym}
-use Rattle.layout.specs.contracts.kind.Kind.{the_type}
+use Rattle.std.proofs.Common.{refl}
 use Prim.Native.Nat.{◌≤◌}
 use native.Mathlib.Omega.{arith}
 use lib.ListN.{length}
 use Rattle.op.proofs.Calling.{not-zero}
 use Rattle.op.proofs.Doing.{does-refused, does-err, does-passed}
+use Rattle.op_look.proofs.Differing.{same_kind, other_kind}
 use Rattle.op_look.proofs.Reading.{bytes-refused, bytes-told, as_looked, read-refused, read-no-name, read-missing, read-root, read-wrong, read-file}
 use Rattle.op_look.proofs.contents.read_at.Goals.{After-lookup}
 use Rattle.op_look.proofs.contents.read_at.Goals as goal
@@ -32,18 +31,18 @@ returns-then-there-eq0 c = λ st s h. does-refused _ s _ h _ _ (read-root _ (as_
 
 pub returns-then-ne : goal.returns-then-ne
 returns-then-ne c =
-    λ st s h. does-refused _ s _ h _ _ (read-wrong _ (as_looked c.in-Found.is (c.in_ok-looked.ensures st s h)) c.if-there-eq0.false (room (goal.at.returns-then-ne c).After-lookup) (differs_true the_type _ _ (sym c.if-ne.ensures)))
+    λ st s h. does-refused _ s _ h _ _ (read-wrong _ (as_looked c.in-Found.is (c.in_ok-looked.ensures st s h)) c.if-there-eq0.false (room (goal.at.returns-then-ne c).After-lookup) (other_kind _ _ c.if-ne.ensures))
 
 pub returns-in_err-put_bytes : goal.returns-in_err-put_bytes
 returns-in_err-put_bytes c =
     λ st s h. does-err _ _ c.from_residual-in_err-put_bytes.ensures.1 (let l = as_looked c.in-Found.is (c.in_ok-looked.ensures st s h) in
     bytes-refused _ s _ h _ _ _ _ _ _ _ _
-    (read-file _ l c.if-there-eq0.false (room (goal.at.returns-in_err-put_bytes c).After-lookup) (differs_false the_type (search rules) _ _ (sym c.if-ne.ensures)) _ (c.contents-contents.ensures st s h _ l.place.1.at))
+    (read-file _ l c.if-there-eq0.false (room (goal.at.returns-in_err-put_bytes c).After-lookup) (same_kind _ _ c.if-ne.ensures) _ (c.contents-contents.ensures st s h _ l.place.1.at))
     c.in_err-put_bytes.ensures (not-zero _))
 
 pub returns : goal.returns
 returns c =
     λ st s h. let l = as_looked c.in-Found.is (c.in_ok-looked.ensures st s h) in
     bytes-told _ s _ h _ _ _ _ _ _ _ _
-    (read-file _ l c.if-there-eq0.false (room (goal.at.returns c).After-lookup) (differs_false the_type (search rules) _ _ (sym c.if-ne.ensures)) _ (c.contents-contents.ensures st s h _ l.place.1.at))
+    (read-file _ l c.if-there-eq0.false (room (goal.at.returns c).After-lookup) (same_kind _ _ c.if-ne.ensures) _ (c.contents-contents.ensures st s h _ l.place.1.at))
     c.in_ok-put_bytes.ensures refl _ l.place.0.counted

@@ -3,11 +3,11 @@
 -- Assumes nothing.
 use Prim.Native.Nat.{◌-◌}
 use lib.ListN.{length}
-use Rattle.op_look.proofs.Listing.{four, Filling}
+use Rattle.op_look.proofs.Listing.{five, Filling}
 use Rattle.op_look.proofs.list.put_records.Given as goal
 
 abbrev pub invariant-loop-step : goal.invariant-loop-step
-invariant-loop-step l = Filling (four l.words l.records l.heads l.times) l.initial.step l.initial.rows l.rows l.at l.step
+invariant-loop-step l = Filling (five l.tree l.times) l.initial.step l.initial.rows l.rows l.at l.step
 
 abbrev pub decreases-loop-step : goal.decreases-loop-step
 decreases-loop-step l = length l.rows - l.at

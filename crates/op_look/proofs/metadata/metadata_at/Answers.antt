@@ -1,7 +1,7 @@
 -- `metadata_at` meets its contract, by what the path leads to.
 -- Assumes nothing.
 use Rattle.std.proofs.Common.{refl}
-use Rattle.layout.specs.Lent.{with_times, with_bytes}
+use Rattle.layout.specs.Lent.{with_times}
 use Rattle.op.proofs.Calling.{not-zero}
 use Rattle.op.proofs.Doing.{does-err, does-passed}
 use Rattle.op.proofs.Leading.{led-stands, led-count}
@@ -15,14 +15,14 @@ returns-in_err-there c =
 pub show-requires : goal.show-requires
 show-requires c =
     let p = c.requires.0 in let a = c.args in
-    (with_bytes a.tree.bytes.now p.0, p.1, _, p.2, led-stands (c.in_ok-there.ensures (with_times a.times.now p.0) p.1 p.2))
+    (p.0, p.1, _, p.2, led-stands (c.in_ok-there.ensures (with_times a.times.now p.0) p.1 p.2))
 
 pub returns-in_err-show : goal.returns-in_err-show
 returns-in_err-show c =
     λ st s h. does-err _ _ c.from_residual-in_err-show.ensures.1 (let a = c.args in let l = c.in_ok-there.ensures (with_times a.times.now st) s h in
-    row-refused _ s _ h _ _ _ _ _ _ (metadata_there _ _ l) (c.in_err-show.ensures (with_bytes a.tree.bytes.now st) s h _ (led-stands l)) (not-zero _))
+    row-refused _ s _ h _ _ _ _ _ _ (metadata_there _ _ l) (c.in_err-show.ensures st s h _ (led-stands l)) (not-zero _))
 
 pub returns : goal.returns
 returns c =
     λ st s h. let a = c.args in let l = c.in_ok-there.ensures (with_times a.times.now st) s h in
-    row-shown _ s _ h _ _ _ _ _ _ (metadata_there _ _ l) (c.in_ok-show.ensures (with_bytes a.tree.bytes.now st) s h _ (led-stands l)) refl _ (led-count l)
+    row-shown _ s _ h _ _ _ _ _ _ (metadata_there _ _ l) (c.in_ok-show.ensures st s h _ (led-stands l)) refl _ (led-count l)

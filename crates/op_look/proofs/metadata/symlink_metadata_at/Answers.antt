@@ -1,7 +1,7 @@
 -- `symlink_metadata_at` meets its contract, by what the walk ended in.
 -- Assumes nothing.
 use Rattle.std.proofs.Common.{refl}
-use Rattle.layout.specs.Lent.{with_times, with_bytes}
+use Rattle.layout.specs.Lent.{with_times}
 use Rattle.op.proofs.Calling.{not-zero}
 use Rattle.op.proofs.Doing.{does-refused, does-err, does-passed}
 use Rattle.op_look.proofs.Showing.{row-refused, row-shown}
@@ -23,14 +23,14 @@ at c = elim c.match-walked.branch [ in-Found w ↦ an_entry w.in-Found.field-1 (
 pub show-requires : goal.show-requires
 show-requires c =
     let p = c.requires.0 in let a = c.args in
-    (with_bytes a.tree.bytes.now p.0, p.1, _, p.2, end_stands (c.in_ok-walked.ensures (with_times a.times.now p.0) p.1 p.2) (elim c.match-walked.branch [ in-Found w ↦ an_entry w.in-Found.field-1 (cc) | in-LastLink w ↦ a_last_link w.in-LastLink.field-1 (cc) ]))
+    (p.0, p.1, _, p.2, end_stands (c.in_ok-walked.ensures (with_times a.times.now p.0) p.1 p.2) (elim c.match-walked.branch [ in-Found w ↦ an_entry w.in-Found.field-1 (cc) | in-LastLink w ↦ a_last_link w.in-LastLink.field-1 (cc) ]))
 
 pub returns-in_err-show : goal.returns-in_err-show
 returns-in_err-show c =
     λ st s h. does-err _ _ c.from_residual-in_err-show.ensures.1 (let a = c.args in let l = c.in_ok-walked.ensures (with_times a.times.now st) s h in let x = at (goal.at.returns-in_err-show c).After-show in
-    row-refused _ s _ h _ _ _ _ _ _ (symlink-there l _ x) (c.in_err-show.ensures (with_bytes a.tree.bytes.now st) s h _ (end_stands l x)) (not-zero _))
+    row-refused _ s _ h _ _ _ _ _ _ (symlink-there l _ x) (c.in_err-show.ensures st s h _ (end_stands l x)) (not-zero _))
 
 pub returns : goal.returns
 returns c =
     λ st s h. let a = c.args in let l = c.in_ok-walked.ensures (with_times a.times.now st) s h in let x = at (goal.at.returns c).After-show in
-    row-shown _ s _ h _ _ _ _ _ _ (symlink-there l _ x) (c.in_ok-show.ensures (with_bytes a.tree.bytes.now st) s h _ (end_stands l x)) refl _ l.place.0.counted
+    row-shown _ s _ h _ _ _ _ _ _ (symlink-there l _ x) (c.in_ok-show.ensures st s h _ (end_stands l x)) refl _ l.place.0.counted
