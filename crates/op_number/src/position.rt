@@ -31,7 +31,7 @@ impl From<u32> for Origin {
     }
 }
 
-// 2^63: an offset of so much or more stands for itself less 2^64.
+// 2^63: a seek from the end leads to a place below it.
 const HALF: u64 = 9223372036854775808;
 
 // The position of the number n, which is open.
@@ -77,17 +77,10 @@ fn from_end(size: u64, offset: u64) -> Result<u64, Refusal>
     requires { size < 2 ^ 63 }
     ensures { SeekIs Origin.End offset 0 size result }
 {
-    if offset < HALF {
-        if HALF - size <= offset {
-            return Err(Refusal::BadSeek);
-        }
-        return Ok(size + offset);
+    match size.checked_add_signed(offset.cast_signed()) {
+        Some(place) if place < HALF => Ok(place),
+        _ => Err(Refusal::BadSeek),
     }
-    let back = HALF - (offset - HALF);
-    if size < back {
-        return Err(Refusal::BadSeek);
-    }
-    Ok(size - back)
 }
 
 // Where a seek leads.
