@@ -13,8 +13,8 @@ ghost use Rattle.ask_entry.specs.Reads.{TellsKind, TellsStat, TellsContents, Tel
 use ask_find::Spot;
 use layout::kind::Kind;
 use layout::{
-    CELL_BYTES, FILE_NUMBERS, HERE_AT, HOLDER_AT, KEPT_AT, NUMBER_WORDS, POSITION_AT, kind_of,
-    len_of, mode_of, slot_of,
+    CELL_BYTES, FILE_NUMBERS, HERE_AT, HOLDER_AT, KEPT_AT, NUMBER_WORDS, POSITION_AT, len_of,
+    mode_of, slot_of,
 };
 
 // What the metadata of an entry shows.
@@ -55,18 +55,14 @@ fn part(s: &[u8], a: usize, n: usize) -> &[u8]
 fn kind_in(h: u64) -> Kind
     ensures { kind_from result ≡ kind_by (kind_of h) }
 {
-    match kind_of(h) {
-        1 => Kind::Directory,
-        2 => Kind::File,
-        _ => Kind::Link,
-    }
+    Kind::of(h).unwrap_or(Kind::Link)
 }
 
 // A link's length is 0, a directory's too.
 fn file_size(h: u64) -> usize
     ensures { result ≡ cond (eqb (kind_of h) 2) (len_of h) 0 }
 {
-    if kind_of(h) == Kind::File.code() {
+    if Kind::of(h) == Some(Kind::File) {
         len_of(h)
     } else {
         0

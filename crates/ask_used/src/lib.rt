@@ -11,8 +11,7 @@ ghost use Rattle.ask_used.specs.Answers.{Counted, Linked, Weighed, held_in, Tell
 use ask_find::Spot;
 use layout::kind::Kind;
 use layout::{
-    COUNT_AT, FILE_NUMBERS, HOLDER_AT, MOST_SLOTS, NUMBER_WORDS, depth_of, kind_of, len_of,
-    nlen_of, slot_of,
+    COUNT_AT, FILE_NUMBERS, HOLDER_AT, MOST_SLOTS, NUMBER_WORDS, depth_of, len_of, nlen_of, slot_of,
 };
 use slots::marks::is_held;
 
@@ -148,10 +147,9 @@ pub fn links_in(records: &[u64], heads: &[u64]) -> usize
     requires { Linked records.now heads.now }
     ensures { TellsLinks records.now heads.now result }
 {
-    let link = Kind::Link.code();
     records
         .iter()
-        .filter(|w| kind_of(heads[slot_of(**w)]) == link)
+        .filter(|w| Kind::of(heads[slot_of(**w)]) == Some(Kind::Link))
         .count()
 }
 

@@ -9,7 +9,7 @@ ghost use Rattle.slots.specs.Uses.{Within, Standing};
 ghost use Rattle.lawful.specs.Parts.{LinksRight, SlotsHeld};
 
 use layout::kind::Kind;
-use layout::{kind_of, len_of};
+use layout::len_of;
 use path::lengths::lengths_ok;
 use text::text_ok;
 
@@ -44,7 +44,7 @@ fn links_ok(heads: &[u64], contents: &[u8]) -> bool
     let mut rest = contents;
     for h in heads {
         let (target, behind) = rest.split_at(len_of(*h));
-        if kind_of(*h) == Kind::Link.code() && !target_ok(target) {
+        if Kind::of(*h) == Some(Kind::Link) && !target_ok(target) {
             return false;
         }
         rest = behind;

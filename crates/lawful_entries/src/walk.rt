@@ -9,7 +9,7 @@ ghost use Rattle.lawful_entries.specs.Fits.{kind_in, entry_fits, walk_fits, rows
 use crate::rising::rises;
 use crate::span::Span;
 use layout::kind::Kind;
-use layout::{MOST_ENTRIES, depth_of, kind_of, nlen_of, slot_of};
+use layout::{MOST_ENTRIES, depth_of, nlen_of, slot_of};
 use path::pieces::{self, Piece};
 
 // A path has fewer names than there are entries.
@@ -57,7 +57,7 @@ fn walk_below(recs: &[u64], heads: &[u64], bytes: &[u8]) -> bool
         let n = nlen_of(*w);
         d = depth_of(*w);
         last[d - 1] = Span::new(off, n);
-        dir = kind_of(heads[slot_of(*w)]) == Kind::Directory.code();
+        dir = Kind::of(heads[slot_of(*w)]) == Some(Kind::Directory);
         off += n;
     }
     true
@@ -71,7 +71,7 @@ fn root_ok(w: u64, heads: &[u64]) -> bool
     depth_of(w) == 0
         && nlen_of(w) == 0
         && slot_of(w) < heads.len()
-        && kind_of(heads[slot_of(w)]) == Kind::Directory.code()
+        && Kind::of(heads[slot_of(w)]) == Some(Kind::Directory)
 }
 
 // Whether the records are the entries of a tree, apart from the bytes of their names.

@@ -8,6 +8,7 @@ use layout::kind::Kind;
 use layout::{FILE_NUMBERS, HOLDER_AT, MOST_SLOTS, NUMBER_WORDS, kind_of, len_of, slot_of};
 
 // Whether the word can be that of an entry's slot: a directory's, which has no bytes, a file's or a link's.
+// kept: the kind as a number; by `Kind::of` the test of 4,096 entries takes 11.6 ns an entry for 10.7, further above its goal of 10 (docs/BENCH.md)
 fn entry_word(h: u64) -> bool
     ensures { result ≡ entry_word h }
 {
@@ -49,7 +50,7 @@ pub fn take_open(words: &[u64], heads: &[u64], taken: &mut [u8; MOST_SLOTS]) -> 
             continue;
         }
         let k = h - 1;
-        if kind_of(heads[k]) != Kind::File.code() {
+        if Kind::of(heads[k]) != Some(Kind::File) {
             return None;
         }
         if taken[k] == 0 {

@@ -3,6 +3,7 @@ pub mod Climbing
 pub mod Walks
 pub mod Homes
 pub mod Roots
+pub mod Kinded
 pub mod Named
 pub mod Numbered
 pub mod Tables

@@ -103,7 +103,7 @@ pub fn len_of(h: u64) -> usize
     (h % LENGTHS) as usize
 }
 
-// kept: a number and not a Kind, since the word of a damaged store may hold any
+// The number of the kind, which in a damaged store may be no kind's: `Kind::of` tells which.
 pub fn kind_of(h: u64) -> u64
     ensures { result ≡ kind_of h }
 {
