@@ -28,7 +28,8 @@ use Rattle.blocks.proofs.Turns.{turned-parts}
 use Rattle.records.specs.Blocks.{raise, raised, move_to, Liftable, Moved}
 use Rattle.layout.proofs.Named.{length-rows, rows_drop}
 use Rattle.records.proofs.Entries.{contents-kept, total-step, total-take}
-use Rattle.records.proofs.Swings.{move_down, move_up}
+use Rattle.records.proofs.Fronts.{may-move_front, moved_in}
+use Rattle.records.proofs.Swings.{move_down, move_up, MayMove}
 use Rattle.layout.specs.Parts.{path_after, Deeper, deepen}
 use Rattle.layout.proofs.Edited.Inserting.{root_is}
 use Rattle.layout.proofs.Walks.{rest_ok as walk-rest}
@@ -39,6 +40,7 @@ use Rattle.edit_entry.specs.Movement.{Beside, front, back, Movable}
 use Rattle.edit_entry.specs.Renaming.{Renamed}
 use Rattle.edit_entry.proofs.Carries.{carried-spells}
 use Rattle.edit_entry.proofs.Inserts.{after-length, name-short}
+use Rattle.edit_entry.proofs.Renames.{renamed_in}
 
 -- the parts of the rules of a walk from the root
 rest_ok : (kind : ℕ → ℕ) (n : ℕ) (r : Row) (rs : List Row) → T (rows_ok kind n (r ∷ rs)) → T (walk_ok kind n [] true rs)
@@ -177,15 +179,19 @@ module _ {st : Store} {i e p depth : ℕ} {y : Name} (l : Lawful st) (m : Movabl
         ap nlen_of (sym g) ∙ (sym (length-take-le (nlen_of (get_or (live st) k 0)) (drop (name_total (take k (live st))) st.bytes) (omega (arith, t, u, r, l.space, l.exact.bytes))) ∙ ap length w.2),
       )
 
-  pub may-rename : (i < n) × (n ≤ length st.records) × (n ≤ 4096) × (length y < 256) × (slot_of (get_or st.records i 0) < 65536) × (name_total (take n st.records) ≤ length st.bytes) × (name_total (take n st.records) + length y ≤ length st.bytes + nlen_of (get_or st.records i 0))
+  -- the word that is read, among those of the entries
+  here : get_or (live st) i 0 ≡ get_or st.records i 0
+  here = get_or-take n st.records i 0 low-index.0
+
+  pub may-rename : (i < length (live st)) × (length (live st) ≤ 4096) × (length y < 256) × (slot_of (get_or (live st) i 0) < 65536)
+      × (name_total (live st) ≤ length st.bytes) × (name_total (live st) + length y ≤ length st.bytes + nlen_of (get_or (live st) i 0))
   may-rename = (
-    low-index.0,
-    low-index.1,
-    low-index.2,
+    omega (arith, live-length st l, low-index.0),
+    omega (arith, live-length st l, low-index.2),
     omega (arith, name-short y m.name),
-    omega (arith, word_is.1, slot-low, l.exact.heads, l.slotted, l.entry_limit.1),
+    omega (arith, ap slot_of here, word_is.1, slot-low, l.exact.heads, l.slotted, l.entry_limit.1),
     omega (arith, l.space, l.exact.bytes),
-    omega (arith, m.fits, l.exact.bytes, word_is.2),
+    omega (arith, m.fits, l.exact.bytes, ap nlen_of here, word_is.2),
   )
     where
       slot-low : m.row.slot < length st.heads
@@ -362,10 +368,26 @@ module _ {st : Store} {i e p depth : ℕ} {y : Name} (l : Lawful st) (m : Movabl
           carried-spells st st' m.root m.a m.row m.x m.b m.a₂ m.b₂ m.q y l carried m.deeper m.behind_it m.gap m.name m.not_first m.clear
 
     -- the depth as the code reads it
-    pub may-move-by : {d : ℕ} → d ≡ depth_of (get_or st.records i 0)
+    may-move-by : {d : ℕ} → d ≡ depth_of (get_or st.records i 0)
         → (i ≤ e) × (e ≤ n) × (p ≤ n) × (i < p → e ≤ p) × (n ≤ length rs₁) × (n ≤ 4096) × (name_total (take n rs₁) ≤ length bs₁) × (depth ≤ 65536) × ((j : ℕ) → i ≤ j → j < e → Liftable (get_or rs₁ j 0) depth d)
     may-move-by f = rw (f ∙ word_is.0) may-move
 
-    pub moves-by : {d : ℕ} → d ≡ depth_of (get_or st.records i 0) → {rs' : List ℕ} {bs' : Bytes} → Moved rs₁ bs₁ rs' bs' n i e p depth d
+    moves-by : {d : ℕ} → d ≡ depth_of (get_or st.records i 0) → {rs' : List ℕ} {bs' : Bytes} → Moved rs₁ bs₁ rs' bs' n i e p depth d
         → Spells (lent st.words rs' st.heads st.times st.paths bs') (moved (path_of (path_after [] m.a) m.row) (m.q ++ (y ∷ [])) (state st))
     moves-by f {rs'} {bs'} v = moves (subst (λ (k : ℕ). Moved rs₁ bs₁ rs' bs' n i e p depth k) (f ∙ word_is.0) v)
+
+  -- ---- the entries alone
+
+  module _ {f : List ℕ} {bs₁ : Bytes} (o : Renamed (live st) st.bytes f bs₁ (length (live st)) i y) where
+    whole : Renamed st.records st.bytes (f ++ drop n st.records) bs₁ n i y
+    whole = renamed_in st.records n low-index.1 low-index.0 o
+
+    long : length f ≡ n
+    long = o.record_count ∙ live-length st l
+
+    pub may-move-front : {d : ℕ} → d ≡ depth_of (get_or (live st) i 0) → MayMove f bs₁ i e p depth d
+    may-move-front {d} h = may-move_front f (drop n st.records) long bs₁ i e p depth d (may-move-by whole (h ∙ ap depth_of here))
+
+    pub moves-front : {d : ℕ} → d ≡ depth_of (get_or (live st) i 0) → {f' : List ℕ} {bs' : Bytes} → Moved f bs₁ f' bs' (length f) i e p depth d
+        → Spells (lent st.words (f' ++ drop n st.records) st.heads st.times st.paths bs') (moved (path_of (path_after [] m.a) m.row) (m.q ++ (y ∷ [])) (state st))
+    moves-front h v = moves-by whole (h ∙ ap depth_of here) (moved_in f (drop n st.records) long v)

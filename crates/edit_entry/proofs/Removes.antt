@@ -32,6 +32,7 @@ use Rattle.slots.specs.Uses.{uses_in, stands_from, Within, Standing}
 use Rattle.records.specs.Blocks.{Closed}
 use Rattle.layout.proofs.Named.{length-rows}
 use Rattle.records.proofs.Entries.{rows-front}
+use Rattle.records.proofs.Fronts.{closed_in}
 use Rattle.layout.specs.Parts.{path_after, Deeper, NotDeeper}
 use Rattle.layout.proofs.Edited.Parted.{after_both, uses_both}
 use Rattle.layout.proofs.Edited.Taking.{rows_cut, look-cut}
@@ -161,7 +162,13 @@ module _ {st : Store} {i e : ℕ} (l : Lawful st) (block : Block st i e) where
 
     -- ---- all steps
 
-    module _ {rs' : List ℕ} {bs₁ : Bytes} (c : Closed st.records st.bytes rs' bs₁ (count st) i e) where
+    module _ {f : List ℕ} {bs₁ : Bytes} (taken : Closed (live st) st.bytes f bs₁ (length (live st)) i e) where
+      abbrev rs' : List ℕ
+      rs' = f ++ drop (count st) st.records
+
+      c : Closed st.records st.bytes rs' bs₁ (count st) i e
+      c = closed_in st.records (count st) (omega (arith, l.exact.records, l.counted)) block.last taken
+
       abbrev recs : List ℕ
       recs = take (count st - (e - i)) rs'
 

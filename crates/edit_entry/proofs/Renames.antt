@@ -1,12 +1,12 @@
 -- A record taken out and put back under another name: the entries before and behind it are as they were.
 -- Assumes nothing.
 use mathlib.Core.List.{List, ◌∷◌, ◌++◌}
-use mathlib.Core.Path.{◌≡◌, refl, sym, ap, ◌∙◌}
+use mathlib.Core.Path.{◌≡◌, refl, sym, ap, ◌∙◌, subst}
 use Prim.Native.Nat.{ℕ, suc, ◌+◌, ◌-◌, ◌≤◌, ◌<◌}
 use native.Mathlib.Numerals.{add-one}
 use native.Mathlib.Omega.{arith}
-use lib.ListN.{length, length-take, take, drop, drop_of_length-le, get_or}
-use lib.Seq.{length-take-le, take-append_seam, drop-append_seam, drop-cons, get_or-take}
+use lib.ListN.{length, length-append, length-drop, length-take, take, drop, drop_of_length-le, get_or}
+use lib.Seq.{length-take-le, take-length, take-append-le, take-take, take-append_seam, drop-append_seam, drop-cons, get_or-take}
 use Rattle.layout.specs.Fields.{depth_of, nlen_of, slot_of, record_word}
 use Rattle.layout.specs.Rows.{Row, rows, name_total}
 use Rattle.records.specs.Blocks.{row_of, Opened, Closed}
@@ -27,7 +27,10 @@ one_between ws i n a b =
     ∙ (ap (λ (r : List ℕ). nlen_of (get_or (take (suc i) ws) i 0) + name_total r) (drop_of_length-le (take (suc i) ws) {i = suc i} (omega (arith, length-take (suc i) ws)))
     ∙ (ap (λ (w : ℕ). nlen_of w + 0) (get_or-take (suc i) ws i 0 (omega arith)) ∙ omega arith)))
 
-module _ (ws bs : List ℕ) (n i : ℕ) (x : List ℕ) (a : i < n) (b : n ≤ length ws) (c : n ≤ 4096) (short : length x < 256) (room : name_total (take n ws) + length x ≤ length bs + nlen_of (get_or ws i 0)) where
+module _ (ws bs : List ℕ) (i : ℕ) (x : List ℕ) (a : i < length ws) (c : length ws ≤ 4096) (short : length x < 256) (room : name_total ws + length x ≤ length bs + nlen_of (get_or ws i 0)) where
+  abbrev n : ℕ
+  n = length ws
+
   abbrev w : ℕ
   w = get_or ws i 0
 
@@ -43,25 +46,25 @@ module _ (ws bs : List ℕ) (n i : ℕ) (x : List ℕ) (a : i < n) (b : n ≤ le
   again = record_word (depth_of w) (length x) (slot_of w)
 
   module _ (ws₁ bs₁ : List ℕ) (o : Closed ws bs ws₁ bs₁ n i (i + 1)) where
-    left : n - (i + 1 - i) ≡ n - 1
-    left = omega arith
+    left : n - (i + 1 - i) ≡ length ws₁ - 1
+    left = omega (arith, o.record_count)
 
-    sum_left : name_total (take (n - 1) ws₁) + nlen_of w ≡ name_total (take n ws)
-    sum_left = omega (arith, ap (λ (k : ℕ). name_total (take k ws₁)) left, o.sum, one_between ws i n a b)
+    sum_left : name_total (take (length ws₁ - 1) ws₁) + nlen_of w ≡ name_total (take n ws)
+    sum_left = omega (arith, ap (λ (k : ℕ). name_total (take k ws₁)) left, o.sum, one_between ws i n a (omega arith))
 
-    rows_left : rows (take (n - 1) ws₁) bs₁ ≡ take i (rows (take n ws) bs) ++ drop (suc i) (rows (take n ws) bs)
+    rows_left : rows (take (length ws₁ - 1) ws₁) bs₁ ≡ take i (rows (take n ws) bs) ++ drop (suc i) (rows (take n ws) bs)
     rows_left = ap (λ (k : ℕ). rows (take k ws₁) bs₁) (sym left) ∙ (o.all ∙ ap (λ (k : ℕ). take i (rows (take n ws) bs) ++ drop k (rows (take n ws) bs)) (add-one i))
 
-    pub may-put : (w₂ : ℕ) → w₂ ≡ again → (i ≤ n - 1) × (n - 1 < length ws₁) × (n - 1 ≤ 4096) × (nlen_of w₂ ≡ length x) × (name_total (take (n - 1) ws₁) + length x ≤ length bs₁)
+    pub may-put : (w₂ : ℕ) → w₂ ≡ again → (i ≤ length ws₁ - 1) × (length ws₁ - 1 < length ws₁) × (length ws₁ - 1 ≤ 4096) × (nlen_of w₂ ≡ length x) × (name_total (take (length ws₁ - 1) ws₁) + length x ≤ length bs₁)
     may-put w₂ e = (
-      omega arith,
       omega (arith, o.record_count),
-      omega arith,
+      omega (arith, o.record_count),
+      omega (arith, o.record_count),
       ap nlen_of e ∙ record-name (depth_of w) (length x) (slot_of w) (omega arith) short,
-      omega (arith, sum_left, o.byte_count),
+      omega (arith, sum_left, o.byte_count, ap name_total (take-length ws)),
     )
 
-    pub renamed : (w₂ : ℕ) (ws' bs' : List ℕ) → w₂ ≡ again → Opened ws₁ bs₁ ws' bs' (n - 1) i w₂ x → Renamed ws bs ws' bs' n i x
+    pub renamed : (w₂ : ℕ) (ws' bs' : List ℕ) → w₂ ≡ again → Opened ws₁ bs₁ ws' bs' (length ws₁ - 1) i w₂ x → Renamed ws bs ws' bs' n i x
     renamed w₂ ws' bs' e p =
         record {
           all =
@@ -75,8 +78,8 @@ module _ (ws bs : List ℕ) (n i : ℕ) (x : List ℕ) (a : i < n) (b : n ≤ le
           byte_count = p.byte_count ∙ o.byte_count;
         }
       where
-        whole : n ≡ n - 1 + 1
-        whole = omega arith
+        whole : n ≡ length ws₁ - 1 + 1
+        whole = omega (arith, o.record_count)
 
         A-length : length A ≡ i
         A-length = length-take-le i (rows (take n ws) bs) (omega (arith, length-rows (take n ws) bs, length-take n ws))
@@ -92,3 +95,23 @@ module _ (ws bs : List ℕ) (n i : ℕ) (x : List ℕ) (a : i < n) (b : n ≤ le
             let f : depth_of w₂ ≡ depth_of w = ap depth_of e ∙ record-depth (depth_of w) (length x) (slot_of w) (omega arith) short in
             let g : slot_of w₂ ≡ slot_of w = ap slot_of e ∙ record-slot (depth_of w) (length x) (slot_of w) (omega arith) short in
             rw (f, g) refl
+
+-- one of the first n renamed, in the whole
+pub renamed_in : (ws : List ℕ) (n : ℕ) {bs f bs' : List ℕ} {i : ℕ} {x : List ℕ} → n ≤ length ws → i < n → Renamed (take n ws) bs f bs' (length (take n ws)) i x
+    → Renamed ws bs (f ++ drop n ws) bs' n i x
+renamed_in ws n {bs} {f} {bs'} {i} {x} h k o =
+    let L : List ℕ = take n ws in
+    let Z : List ℕ = drop n ws in
+    let l : length L ≡ n = length-take-le n ws h in
+    let c : Renamed L bs f bs' n i x = subst (λ (j : ℕ). Renamed L bs f bs' j i x) l o in
+    let t : take n L ≡ L = take-take n n ws (omega arith) in
+    let w : get_or L i 0 ≡ get_or ws i 0 = get_or-take n ws i 0 k in
+    let front : take n (f ++ Z) ≡ take n f = take-append-le n f Z (omega (arith, c.record_count, l)) in
+    record {
+      all = (λ j. rows (front j) bs') ∙ c.all
+          ∙ (λ j. take i (rows (t j) bs) ++ (record { depth = depth_of (w j); name = x; slot = slot_of (w j) } ∷ drop (suc i) (rows (t j) bs)));
+      sum = omega (arith, ap name_total front, c.sum, ap name_total t, ap nlen_of w);
+      texts = λ hs r s. c.texts hs (omega (arith, ap name_total t, r)) (omega (arith, ap name_total t, ap nlen_of w, s));
+      record_count = length-append f Z ∙ omega (arith, c.record_count, l, length-drop n ws, h);
+      byte_count = c.byte_count;
+    }

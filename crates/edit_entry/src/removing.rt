@@ -9,6 +9,7 @@ ghost use Rattle.edit_entry.specs.Clearing.{keeps_one, keeps_used, Cleared};
 ghost use Rattle.edit_entry.specs.Removal.{Block, Removed};
 
 use layout::{COUNT_AT, MOST_SLOTS};
+use std::ops::Range;
 
 // Frees the slot that no record names any more, where no file number stands on it.
 fn free_one(words: &[u64], heads: &mut [u64], bytes: &mut [u8], s: usize)
@@ -38,26 +39,27 @@ fn free_unused(words: &[u64], recs: &[u64], heads: &mut [u64], bytes: &mut [u8])
     slots::sweep(heads, bytes, &marks[..n]);
 }
 
-// The entry at record i, and what lies below it up to record e.
-// kept: the slices are lent one by one, since a removal touches no times.
+// The records of the block, an entry and all below it.
+// kept: the slices are lent one by one, since a removal touches no times, and Entries would ask them of the caller.
 pub fn remove_entry(
     words: &mut [u64],
     records: &mut [u64],
     heads: &mut [u64],
     bytes: &mut [u8],
-    i: usize,
-    e: usize,
+    block: Range<usize>,
 )
-    requires { SomeLawful (with_words words.old ∘ with_records records.old ∘ with_heads heads.old ∘ with_bytes bytes.old) (λ st. Block st i e) }
+    requires { SomeLawful (with_words words.old ∘ with_records records.old ∘ with_heads heads.old ∘ with_bytes bytes.old)
+        (λ st. Block st block.start block.end) }
     ensures { OnLawful (on_words words.old words.new & on_records records.old records.new & on_heads heads.old heads.new
-        & on_bytes bytes.old bytes.new) (λ st u. Removed st u i e) }
+        & on_bytes bytes.old bytes.new) (λ st u. Removed st u block.start block.end) }
 {
     let count = words[COUNT_AT] as usize;
-    let s = layout::slot_of(records[i]);
-    records::close_entries(records, bytes, count, i, e);
-    let left = count - (e - i);
+    let s = layout::slot_of(records[block.start]);
+    let gone = block.end - block.start;
+    records::close_entries(&mut records[..count], bytes, block);
+    let left = count - gone;
     words[COUNT_AT] = left as u64;
-    if e - i == 1 {
+    if gone == 1 {
         free_one(words, heads, bytes, s);
         return;
     }

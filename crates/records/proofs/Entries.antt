@@ -4,10 +4,9 @@
 use mathlib.Core.Path.{◌≡◌, refl, sym, ap, ◌∙◌}
 use mathlib.Core.List.{List, [], ◌∷◌, ◌++◌}
 use Prim.Native.Nat.{ℕ, suc, ◌+◌, ◌-◌, ◌≤◌, ◌<◌}
-use native.Mathlib.Numerals.{add-one}
 use native.Mathlib.Omega.{arith}
 use lib.ListN.{length, take, drop, get_or, length-drop}
-use lib.Seq.{length-take-le, take_at, take-append-le, drop-append-le, take-take, take-suc, drop-drop, length-slice}
+use lib.Seq.{length-take-le, take-length, take_at, take-append-le, drop-append-le, take-take, take-suc, drop-drop, length-slice}
 use Rattle.std.proofs.lemmas.List.{drop-take}
 use Rattle.std.proofs.lemmas.Slice.{between_is}
 use Rattle.blocks.proofs.Cuts.{up_to}
@@ -22,6 +21,14 @@ use Rattle.layout.proofs.Named.{total-append, total-split, rows_take, rows_drop}
 pub total_up : (ws : List ℕ) (a m : ℕ) → a ≤ m → name_total (take m ws) ≡ name_total (take a ws) + name_total (drop a (take m ws))
 total_up ws a m h = ap name_total (sym (up_to ws a m h)) ∙ total-append (take a ws) (drop a (take m ws))
 
+-- the same, of a part as slices are cut
+pub total_on : (ws : List ℕ) (a m : ℕ) → a ≤ m → name_total (take m ws) ≡ name_total (take a ws) + name_total (take (m - a) (drop a ws))
+total_on ws a m h = total_up ws a m h ∙ ap (λ (l : List ℕ). name_total (take a ws) + name_total l) (sym (between_is ws a m))
+
+-- of all
+pub total_end : (ws : List ℕ) (a : ℕ) → a ≤ length ws → name_total ws ≡ name_total (take a ws) + name_total (take (length ws - a) (drop a ws))
+total_end ws a h = ap name_total (sym (take-length ws)) ∙ total_on ws a (length ws) h
+
 pub total-take : (ws : List ℕ) (k : ℕ) → name_total (take k ws) ≤ name_total ws
 total-take ws k = omega (arith, total-split ws k)
 
@@ -32,9 +39,6 @@ total-step ws a j h l =
     let more : drop a (take (suc j) ws) ≡ drop a (take j ws) ++ (get_or ws j 0 ∷ []) =
     ap (drop a) (take-suc ws j 0 l) ∙ drop-append-le a (take j ws) (get_or ws j 0 ∷ []) (omega (arith, length-take-le j ws (omega arith))) in
     ap name_total more ∙ total-append (drop a (take j ws)) (get_or ws j 0 ∷ []) ∙ omega arith
-
-pub total_more : (ws : List ℕ) (j w : ℕ) → j < length ws → w ≡ get_or ws j 0 → name_total (take (j + 1) ws) ≡ name_total (take j ws) + nlen_of w
-total_more ws j w l e = rw (e, add-one j) (total-step ws 0 j (omega arith) l)
 
 -- ---- the entries
 
@@ -67,8 +71,8 @@ rows-cat (w ∷ a) b s t h =
     λ i. record { depth = depth_of w; name = one i; slot = slot_of w } ∷ rest i
 
 -- the names of the first m are those of the first a and those from there on
-pub total-sum : (ws : List ℕ) (a m o n : ℕ) → a ≤ m → o ≡ name_total (take a ws) → n ≡ name_total (drop a (take m ws)) → o + n ≡ name_total (take m ws)
-total-sum ws a m o n h p q = omega (arith, total_up ws a m h)
+pub total-sum : (ws : List ℕ) (a m o n : ℕ) → a ≤ m → o ≡ name_total (take a ws) → n ≡ name_total (take (m - a) (drop a ws)) → o + n ≡ name_total (take m ws)
+total-sum ws a m o n h p q = omega (arith, total_on ws a m h)
 
 -- words behind the first k, with bytes behind their names
 pub rows-around : (ws bs m y : List ℕ) (k o : ℕ) → o ≡ name_total (take k ws) → o ≤ length bs → rows (take k ws ++ m) (take o bs ++ y) ≡ take k (rows ws bs) ++ rows m y

@@ -4,3 +4,4 @@ pub mod Opens
 pub mod Closes
 pub mod Swings
 pub mod Lowers
+pub mod Fronts

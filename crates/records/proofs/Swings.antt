@@ -6,15 +6,16 @@ use mathlib.Core.List.{List, [], ◌∷◌, ◌++◌, append_assoc, map}
 use Prim.Native.Nat.{ℕ, suc, ◌+◌, ◌-◌, ◌≤◌, ◌<◌}
 use native.Mathlib.Omega.{arith}
 use lib.ListN.{length, length-map, take, drop, get_or, length-append, take-append-drop}
-use lib.Seq.{length-take-le, take_at, drop_at, take-append-le, drop-append-le, take-take, get_or-take, get_or-drop, length-slice}
+use lib.Seq.{length-take-le, take-length, take_at, drop_at, take-append-le, drop-append-le, take-take, get_or-take, get_or-drop, length-slice}
 use borrow.Author.Tests.{le-leb, lt-leb}
 use Rattle.blocks.specs.Turn.{turned}
 use Rattle.blocks.proofs.Turns.{turned-parts, turned-append}
 use Rattle.std.proofs.lemmas.Slice.{between_is}
 use Rattle.blocks.proofs.Cuts.{thirds, quarter}
+use Rattle.layout.specs.Numbers.{most_entries, depths}
 use Rattle.layout.specs.Fields.{depth_of, nlen_of, slot_of}
 use Rattle.layout.specs.Rows.{Row, rows, name_total}
-use Rattle.records.specs.Blocks.{changed, lift, raise, raised, move_to, Liftable, Moved}
+use Rattle.records.specs.Blocks.{changed, lift, raise, raised, move_to, Liftable, Liftables, Moved}
 use Rattle.layout.proofs.Named.{total-append, total-split, length-rows, rows_take, rows_drop}
 use Rattle.records.proofs.Entries.{total_up, total-take, rows_short, rows-cat, rows-around, drop-later}
 use Rattle.records.proofs.Lifts.{depth-lift, nlen-lift, slot-lift}
@@ -205,3 +206,46 @@ module _ (ws bs ws₁ : List ℕ) (n a b u d : ℕ) (h₁ : a ≤ b) (h₂ : b �
         record_count = lw;
         byte_count = lb;
       }
+
+-- ---- all the entries
+
+-- those from a to b may be raised and moved before the p-th
+abbrev pub MayMove : (ws bs : List ℕ) (a b p u d : ℕ) → Type 0
+MayMove ws bs a b p u d = (a ≤ b) × (b ≤ length ws) × (p ≤ length ws) × ((a < p) → b ≤ p) × (length ws ≤ most_entries) × (name_total ws ≤ length bs) × (u ≤ depths) × Liftables ws a b u d
+
+-- two parts may be exchanged
+abbrev pub MaySwing : (ws bs : List ℕ) (x y z : ℕ) → Type 0
+MaySwing ws bs x y z = (x ≤ y) × (y ≤ z) × (z ≤ length ws) × (z ≤ most_entries) × (name_total (take z ws) ≤ length bs)
+
+-- and are
+abbrev pub Exchanged : (ws bs ws' bs' : List ℕ) (x y z : ℕ) → Type 0
+Exchanged ws bs ws' bs' x y z = (ws' ≡ turned ws x y z) × (bs' ≡ turned bs (name_total (take x ws)) (name_total (take y ws)) (name_total (take z ws)))
+
+module _ (ws bs : List ℕ) (a b p u d : ℕ) {ws₁ : List ℕ} (q : MayMove ws bs a b p u d) (e : ws₁ ≡ changed (lift u d) ws a b) where
+  fits : name_total (take (length ws) ws) ≤ length bs
+  fits = omega (arith, ap name_total (take-length ws), q.5)
+
+  long : length ws₁ ≡ length ws
+  long = ap length e ∙ length-changed (lift u d) ws a b q.0 q.1
+
+  may_swing : (x y z : ℕ) → x ≤ y → y ≤ z → z ≤ length ws → MaySwing ws₁ bs x y z
+  may_swing x y z h k l = (h, k, omega (arith, long), omega (arith, q.4), names-room ws bs ws₁ (length ws) a b u d q.0 q.1 (omega arith) fits q.7 e z l)
+
+  -- down, and up
+  pub may-go_down : p ≤ a → MaySwing ws₁ bs p a b
+  may-go_down h = may_swing p a b h q.0 q.1
+
+  pub may-go_up : a < p → MaySwing ws₁ bs a b p
+  may-go_up h = may_swing a b p q.0 (q.3 h) q.2
+
+  module _ {ws' bs' : List ℕ} (lw : length ws' ≡ length ws₁) (lb : length bs' ≡ length bs) where
+    all_moved : (x y z : ℕ) → x ≤ y → y ≤ z → z ≤ length ws → ((A : Type 0) (s : List A) → move_to s a b p ≡ turned s x y z) → Exchanged ws₁ bs ws' bs' x y z → Moved ws bs ws' bs' (length ws) a b p u d
+    all_moved x y z h k l f s =
+        moved_all ws bs ws₁ (length ws) a b u d q.0 q.1 (omega arith) fits q.7 e ws' bs' p x y z h k l
+        (f ℕ (changed (lift u d) (take (length ws) ws) a b)) (f Row (raised (rows (take (length ws) ws) bs) a b u d)) s.0 s.1 (lw ∙ long) lb
+
+    pub moved_down : p ≤ a → Exchanged ws₁ bs ws' bs' p a b → Moved ws bs ws' bs' (length ws) a b p u d
+    moved_down h = all_moved p a b h q.0 q.1 (λ A s. move_down s a b p h)
+
+    pub moved_up : a < p → Exchanged ws₁ bs ws' bs' a b p → Moved ws bs ws' bs' (length ws) a b p u d
+    moved_up h = all_moved a b p q.0 (q.3 h) q.2 (λ A s. move_up s a b p h)

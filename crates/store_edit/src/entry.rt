@@ -85,7 +85,7 @@ pub fn remove(
     let i = spot.at;
     let e = ask_find::block_end(store::live(words, records), i);
     let slots = words[EXTENT_AT] as usize;
-    edit_entry::removing::remove_entry(words, records, &mut heads[..slots], bytes, i, e);
+    edit_entry::removing::remove_entry(words, records, &mut heads[..slots], bytes, i..e);
     edit_room::release(words, heads);
 }
 

@@ -27,7 +27,7 @@ pub fn move_to(
 {
     let i = spot.at;
     let end = block_end(live(words, records), i);
-    edit_entry::moving::move_entry(words, records, bytes, i, end, gap.at, gap.depth, name);
+    edit_entry::moving::move_entry(words, records, bytes, i..end, gap, name);
 }
 
 // The entry at the spot becomes the entry `name` of a new directory, which has its old place and name. One of the slots so far is free.
@@ -51,7 +51,7 @@ fn nest_free(l: Entries, heads: &mut [u64], spot: Spot, name: &[u8], new: Fresh)
         times,
         bytes,
     };
-    edit_entry::nesting::nest_entry(lent, &mut heads[..slots], i, end, name, new);
+    edit_entry::nesting::nest_entry(lent, &mut heads[..slots], i..end, name, new);
     Spot { at: i + 1, off }
 }
 

@@ -173,7 +173,7 @@ fn remove_exact(
         return false;
     }
     let e = ask_find::block_end(&records[..count], i);
-    edit_entry::removing::remove_entry(words, records, heads, bytes, i, e);
+    edit_entry::removing::remove_entry(words, records, heads, bytes, i..e);
     true
 }
 

@@ -76,6 +76,6 @@ pub fn try_move(
     let Some(Way { end, gap }) = way_to(lent, i, dir, name) else {
         return false;
     };
-    edit_entry::moving::move_entry(words, records, bytes, i, end, gap.at, gap.depth, name);
+    edit_entry::moving::move_entry(words, records, bytes, i..end, gap, name);
     true
 }

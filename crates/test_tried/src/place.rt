@@ -15,7 +15,7 @@ use ask_find::{Gap, Spot};
 use edit_entry::made::Made;
 use layout::kind::Kind;
 use layout::slices::Slices;
-use layout::{COUNT_AT, MOST_BYTES, kind_of, slot_of};
+use layout::{COUNT_AT, MOST_BYTES, kind_of, names_of, slot_of};
 
 const MOST: usize = MOST_BYTES as usize;
 
@@ -44,7 +44,7 @@ pub(crate) fn look(lent: Slices, dir: usize, name: &[u8]) -> Result<Spot, Gap>
     ensures { let st = lent_by lent.entry in Looks st (count st) (state st).tree (path_at st dir) name.now result }
 {
     let count = lent.words[COUNT_AT] as usize;
-    let off = records::names_to(lent.records, dir);
+    let off = names_of(&lent.records[..dir]);
     let at = Spot { at: dir, off };
     ask_find::child(&lent.records[..count], lent.bytes, at, name, count)
 }

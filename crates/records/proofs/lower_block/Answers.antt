@@ -9,7 +9,7 @@ pub word_below-below-requires : goal.word_below-below-requires
 word_below-below-requires c =
     let a = c.args in
     let p = c.requires in
-    (omega (arith, (p.7 a.i (omega arith) p.0).high), p.5, p.6)
+    (omega (arith, (p.7 a.block.start (omega arith) p.0).high), p.5, p.6)
 
 pub lift_words-requires : goal.lift_words-requires
 lift_words-requires c =
@@ -17,7 +17,7 @@ lift_words-requires c =
     let p = c.requires in
     let u = c.with_slot in
     let v = c.word_below-below in
-    (omega (arith, p.0), omega (arith, length-set a.records.now a.i u.result, p.1, p.2), omega arith, ready a.records.now a.bytes.now a.count a.i a.e a.s a.name.now p.0 p.1 p.2 u.result v.result u.ensures.0 u.ensures.1 u.ensures.2 v.ensures.0 v.ensures.2 p.7)
+    (omega (arith, p.0), omega (arith, length-set a.records.now a.block.start u.result, p.1, p.2), omega arith, ready a.records.now a.bytes.now a.count a.block.start a.block.end a.s a.name.now p.0 p.1 p.2 u.result v.result u.ensures.0 u.ensures.1 u.ensures.2 v.ensures.0 v.ensures.2 p.7)
 
 pub open_entry-requires : goal.open_entry-requires
 open_entry-requires c =
@@ -26,7 +26,7 @@ open_entry-requires c =
     let u = c.with_slot in
     let v = c.word_below-below in
     let k = c.lift_words.ensures in
-    (omega (arith, p.0, p.1), omega (arith, p.2, long_kept a.records.now a.bytes.now a.count a.i a.e a.s a.name.now p.0 p.1 p.2 u.result v.result u.ensures.0 u.ensures.1 u.ensures.2 v.ensures.0 v.ensures.2 p.7 p.8 _ k), p.3, v.ensures.1, omega (arith, p.8, total_kept a.records.now a.bytes.now a.count a.i a.e a.s a.name.now p.0 p.1 p.2 u.result v.result u.ensures.0 u.ensures.1 u.ensures.2 v.ensures.0 v.ensures.2 p.7 p.8 _ k))
+    (omega (arith, p.0, p.1), omega (arith, p.2, long_kept a.records.now a.bytes.now a.count a.block.start a.block.end a.s a.name.now p.0 p.1 p.2 u.result v.result u.ensures.0 u.ensures.1 u.ensures.2 v.ensures.0 v.ensures.2 p.7 p.8 _ k), p.3, v.ensures.1, omega (arith, p.8, total_kept a.records.now a.bytes.now a.count a.block.start a.block.end a.s a.name.now p.0 p.1 p.2 u.result v.result u.ensures.0 u.ensures.1 u.ensures.2 v.ensures.0 v.ensures.2 p.7 p.8 _ k))
 
 pub shape_of-records : goal.shape_of-records
 shape_of-records c =
@@ -34,7 +34,7 @@ shape_of-records c =
     let p = c.requires in
     let u = c.with_slot in
     let v = c.word_below-below in
-    c.open_entry.ensures.record_count ∙ long_kept a.records.now a.bytes.now a.count a.i a.e a.s a.name.now p.0 p.1 p.2 u.result v.result u.ensures.0 u.ensures.1 u.ensures.2 v.ensures.0 v.ensures.2 p.7 p.8 _ c.lift_words.ensures
+    c.open_entry.ensures.record_count ∙ long_kept a.records.now a.bytes.now a.count a.block.start a.block.end a.s a.name.now p.0 p.1 p.2 u.result v.result u.ensures.0 u.ensures.1 u.ensures.2 v.ensures.0 v.ensures.2 p.7 p.8 _ c.lift_words.ensures
 
 pub returns : goal.returns
 returns c =
@@ -42,4 +42,4 @@ returns c =
     let p = c.requires in
     let u = c.with_slot in
     let v = c.word_below-below in
-    lowered a.records.now a.bytes.now a.count a.i a.e a.s a.name.now p.0 p.1 p.2 u.result v.result u.ensures.0 u.ensures.1 u.ensures.2 v.ensures.0 v.ensures.2 p.7 p.8 _ c.lift_words.ensures _ _ c.open_entry.ensures
+    lowered a.records.now a.bytes.now a.count a.block.start a.block.end a.s a.name.now p.0 p.1 p.2 u.result v.result u.ensures.0 u.ensures.1 u.ensures.2 v.ensures.0 v.ensures.2 p.7 p.8 _ c.lift_words.ensures _ _ c.open_entry.ensures

@@ -10,8 +10,8 @@ pub returns : goal.returns
 returns c =
     let a = c.args in
     let p = c.requires in
-    let o = c.names_to-o in
-    let z = c.names_between in
+    let o = c.names_of-o in
+    let z = c.names_of in
     let gap = c.open_gap in
     let copy = c.copy_into in
     let up = c.open_gap-2 in

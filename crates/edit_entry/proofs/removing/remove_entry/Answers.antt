@@ -6,10 +6,10 @@ use Rattle.edit_entry.proofs.removing.remove_entry.Goals as goal
 pub free_one-requires : goal.free_one-requires
 free_one-requires c = let p = c.requires in may-free-one p.1 p.2 refl c.close_entries.ensures c.slot_of-s.ensures
 
-pub returns-then-e-i-eq1 : goal.returns-then-e-i-eq1
-returns-then-e-i-eq1 c st l =
+pub returns-then-gone-eq1 : goal.returns-then-gone-eq1
+returns-then-gone-eq1 c st l =
     let b = c.requires.2 in
-    removed-one l (record { first = b.first; some = b.some; last = b.last; below = b.below; behind = b.behind }) refl c.close_entries.ensures c.if-e-i-eq1.true c.slot_of-s.ensures c.free_one.ensures
+    removed-one l (record { first = b.first; some = b.some; last = b.last; below = b.below; behind = b.behind }) refl c.close_entries.ensures c.if-gone-eq1.true c.slot_of-s.ensures c.free_one.ensures
 
 pub free_unused-requires : goal.free_unused-requires
 free_unused-requires c = let p = c.requires in may-free-unused p.1 p.2 refl c.close_entries.ensures
