@@ -36,7 +36,7 @@ use Rattle.edit_entry.specs.declared.made.Made.{Made}
 use Rattle.edit_entry.specs.declared.made.Made.TheVariants.{Directory, File, Link}
 use Rattle.edit_entry.specs.Filling.{head_made, Filled}
 use Rattle.edit_entry.specs.Growth.{new_row, new_meta, Timed, Grown}
-use Rattle.edit_entry.specs.Insertion.{Vacancy, Insertable, InsertedAt}
+use Rattle.edit_entry.specs.Insertion.{Vacancy, Insertable, InsertedAt, MayInsert, Placed, MayPut, PutAt}
 use Rattle.edit_entry.specs.Made.{kind_made, bytes_made, Holds, insertion}
 use Rattle.edit_entry.proofs.Grows.{grown-dir, grown-file, grown-link}
 use Rattle.edit_entry.proofs.Places.{gap-tree, gap-rows}
@@ -143,12 +143,6 @@ holds-slot made new small h =
 pub slot_small : {st : Store} {s : ℕ} → Lawful st → s < length st.heads → s < 65536
 slot_small l h = omega (arith, l.exact.heads, l.slotted, l.entry_limit.1)
 
--- the place is one of those before or behind the entries, of a depth and a name that a record can hold
-pub record Placed (st : Store) (k depth : ℕ) (x : Name) : Type 0 where
-  pub last : k ≤ count st
-  pub small : depth < 65536
-  pub short : length x < 256
-
 module _ {st : Store} {k depth : ℕ} {x : Name} {made : Made} (l : Lawful st) (i : Insertable st x made) (p : Placed st k depth x) where
   abbrev c : Bytes
   c = bytes_made made
@@ -212,7 +206,7 @@ module _ {st : Store} {k depth : ℕ} {x : Name} {made : Made} (l : Lawful st) (
         timing : Timed st st' s new.time
         timing = times-filled st st' s new.time may-fill.3 f.times
 
-        pub grown : Grown st st' (take k (rows_of st)) (drop k (rows_of st)) row h c new.time
+        grown : Grown st st' (take k (rows_of st)) (drop k (rows_of st)) row h c new.time
         grown =
             record {
               counted = record { words = g ∙ ap (set st.words 2) (add-one (count st)); paths = refl; slots = ap length f.heads ∙ length-set st.heads s h };
@@ -231,57 +225,72 @@ module _ {st : Store} {k depth : ℕ} {x : Name} {made : Made} (l : Lawful st) (
               more = i.more;
             }
 
-        pub slot_ok_lem : T (slot_by (kind_of h) h 1 false c)
-        slot_ok_lem = holds-slot made new n-small i.holds
+        pub put-at : PutAt st st' k depth x made new
+        put-at = record { slot = s; grown = grown }
 
-        module _ {q : Path} (v : Vacancy st k depth q x) where
-          abbrev a : List Row
-          a = take k (rows_of st)
+-- ---- an entry put in
 
-          abbrev b : List Row
-          b = drop k (rows_of st)
+module _ {st st' : Store} {k depth : ℕ} {x : Name} {made : Made} {new : Fresh} (l : Lawful st) (i : Insertable st x made) (u : PutAt st st' k depth x made new) where
+  abbrev s : ℕ
+  s = u.slot
 
-          abbrev to : Path
-          to = q ++ (x ∷ [])
+  abbrev head : ℕ
+  head = head_made made new
 
-          not-empty : a ≡ [] → ⊥
-          not-empty y =
-              let u = sym (length-take k (rows_of st)) ∙ ap length y in
-              omega (arith, u, v.first, v.last, length-rows (live st) st.bytes, length-take (count st) st.records, l.exact.records, l.counted)
+  small : length (bytes_made made) < 16777216
+  small = omega (arith, i.fits, l.byte_limit.1)
 
-          grown-at : Grown st st' a b (new_row q x s) h c new.time
-          grown-at = subst (λ (d : ℕ). Grown st st' a b (record { depth = d; name = x; slot = s }) h c new.time) v.deep grown
+  pub slot_ok_lem : T (slot_by (kind_of head) head 1 false (bytes_made made))
+  slot_ok_lem = holds-slot made new small i.holds
 
-          abbrev tree : (d : ℕ → Node) → tree_from d [] (a ++ (new_row q x s ∷ b)) ≡ tree_from d [] a ++ ((to, d s) ∷ tree_from d (path_after [] a) b)
-          tree = gap-tree l grown-at v.gap
+  module _ {q : Path} (v : Vacancy st k depth q x) where
+    abbrev a : List Row
+    a = take k (rows_of st)
 
-          rules : T (rows_ok (kind_at st') (length st.heads) (a ++ (new_row q x s ∷ b)))
-          rules = gap-rows l grown-at v.gap not-empty v.name
+    abbrev b : List Row
+    b = drop k (rows_of st)
 
-          inserted : Spells st' (edited (insertion made new to) (state st))
-          inserted = go made refl
-            where
-              kind : {y : Made} → made ≡ y → kind_of h ≡ code_of (kind_made y)
-              kind e = kind-made made new n-small ∙ ap (λ (u : Made). code_of (kind_made u)) e
+    abbrev to : Path
+    to = q ++ (x ∷ [])
 
-              mode : mode_of h ≡ new.mode
-              mode = mode-made made new n-small
+    not-empty : a ≡ [] → ⊥
+    not-empty y =
+        let u = sym (length-take k (rows_of st)) ∙ ap length y in
+        omega (arith, u, v.first, v.last, length-rows (live st) st.bytes, length-take (count st) st.records, l.exact.records, l.counted)
 
-              go : (y : Made) → made ≡ y → Spells st' (edited (insertion y new to) (state st))
-              go Directory e =
-                  subst (λ (m : ℕ). Spells st' (edited (make to (new_meta m new.time)) (state st))) mode
-                  (grown-dir l grown-at to tree rules slot_ok_lem v.missing (kind e))
-              go (File d) e =
-                  subst (λ (m : ℕ). Spells st' (edited (create to (record { meta = new_meta m new.time; bytes = d.now })) (state st))) mode
-                  (subst (λ (b : Bytes). Spells st' (edited (create to (record { meta = new_meta (mode_of h) new.time; bytes = b })) (state st))) (ap bytes_made e)
-                  (grown-file l grown-at to tree rules slot_ok_lem v.missing (kind e)))
-              go (Link d) e =
-                  subst (λ (m : ℕ). Spells st' (edited (symlink to (new_meta m new.time) d.now) (state st))) mode
-                  (subst (λ (b : Bytes). Spells st' (edited (symlink to (new_meta (mode_of h) new.time) b) (state st))) (ap bytes_made e)
-                  (grown-link l grown-at to tree rules slot_ok_lem v.missing (kind e)))
+    grown-at : Grown st st' a b (new_row q x s) head (bytes_made made) new.time
+    grown-at = subst (λ (d : ℕ). Grown st st' a b (record { depth = d; name = x; slot = s }) head (bytes_made made) new.time) v.deep u.grown
 
-          pub inserted-at : InsertedAt st st' k q x made new
-          inserted-at = record { spells = inserted; slot = s; rows = grown-at.new }
+    abbrev tree : (d : ℕ → Node) → tree_from d [] (a ++ (new_row q x s ∷ b)) ≡ tree_from d [] a ++ ((to, d s) ∷ tree_from d (path_after [] a) b)
+    tree = gap-tree l grown-at v.gap
+
+    rules : T (rows_ok (kind_at st') (length st.heads) (a ++ (new_row q x s ∷ b)))
+    rules = gap-rows l grown-at v.gap not-empty v.name
+
+    inserted : Spells st' (edited (insertion made new to) (state st))
+    inserted = go made refl
+      where
+        kind : {y : Made} → made ≡ y → kind_of head ≡ code_of (kind_made y)
+        kind e = kind-made made new small ∙ ap (λ (u : Made). code_of (kind_made u)) e
+
+        mode : mode_of head ≡ new.mode
+        mode = mode-made made new small
+
+        go : (y : Made) → made ≡ y → Spells st' (edited (insertion y new to) (state st))
+        go Directory e =
+            subst (λ (m : ℕ). Spells st' (edited (make to (new_meta m new.time)) (state st))) mode
+            (grown-dir l grown-at to tree rules slot_ok_lem v.missing (kind e))
+        go (File d) e =
+            subst (λ (m : ℕ). Spells st' (edited (create to (record { meta = new_meta m new.time; bytes = d.now })) (state st))) mode
+            (subst (λ (b : Bytes). Spells st' (edited (create to (record { meta = new_meta (mode_of head) new.time; bytes = b })) (state st))) (ap bytes_made e)
+            (grown-file l grown-at to tree rules slot_ok_lem v.missing (kind e)))
+        go (Link d) e =
+            subst (λ (m : ℕ). Spells st' (edited (symlink to (new_meta m new.time) d.now) (state st))) mode
+            (subst (λ (b : Bytes). Spells st' (edited (symlink to (new_meta (mode_of head) new.time) b) (state st))) (ap bytes_made e)
+            (grown-link l grown-at to tree rules slot_ok_lem v.missing (kind e)))
+
+    pub inserted-at : InsertedAt st st' k q x made new
+    inserted-at = record { spells = inserted; slot = s; rows = grown-at.new }
 
 -- ---- the place of an entry
 
@@ -300,3 +309,7 @@ module _ {st : Store} {k depth : ℕ} {q : Path} {x : Name} (l : Lawful st) (v :
 
   pub placed : Placed st k depth x
   placed = record { last = v.last; small = depth_small; short = name-length }
+
+-- what an insertion asks allows the step
+pub may-put-in : {st : Store} {k depth : ℕ} {q : Path} {x : Name} {made : Made} → Lawful st → MayInsert st k depth q x made → MayPut st k depth x made
+may-put-in l m = record { place = placed l m.vacant; allowed = m.allowed; free = m.free }

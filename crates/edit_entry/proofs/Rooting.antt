@@ -3,24 +3,21 @@
 use mathlib.Core.List.{List, []}
 use mathlib.Core.Option.{none}
 use mathlib.Core.Path.{◌≡◌, ap, ◌∙◌, subst}
-use Prim.Native.Nat.{ℕ, ◌+◌, ◌<◌}
+use Prim.Native.Nat.{ℕ}
 use native.Mathlib.Omega.{arith}
-use lib.IntN.{ℤ}
-use lib.ListN.{length, take, drop, get_or, set}
-use Rattle.text.specs.Utf8.{Bytes}
+use lib.ListN.{length, take, drop}
 use Rattle.model.specs.Tree.{look}
 use Rattle.model.proofs.Entries.{look_none}
-use Rattle.layout.specs.Fields.{record_word, kind_of}
+use Rattle.layout.specs.Fields.{kind_of}
 use Rattle.layout.specs.Rows.{Row, rows, name_total, tree_from}
-use Rattle.layout.specs.Store.{Store, lent, count, rows_of, kind_at, node_at, state}
+use Rattle.layout.specs.Store.{Store, count, rows_of, kind_at, node_at, state}
 use Rattle.layout.specs.Lawful.{Lawful}
-use Rattle.records.specs.Blocks.{Opened}
-use Rattle.edit_entry.specs.Filling.{head_made, Filled}
+use Rattle.edit_entry.specs.Filling.{head_made}
 use Rattle.edit_entry.specs.Growth.{root_row, new_meta, Grown}
-use Rattle.edit_entry.specs.Insertion.{Insertable, Rooted}
+use Rattle.edit_entry.specs.Insertion.{Insertable, MayRoot, Placed, MayPut, PutAt, Rooted}
 use Rattle.edit_entry.proofs.Growing.{new-head}
 use Rattle.edit_entry.proofs.Grows.{grown-dir}
-use Rattle.edit_entry.proofs.Inserts.{Placed, kind-made, mode-made, grown, slot_ok_lem}
+use Rattle.edit_entry.proofs.Inserts.{kind-made, mode-made, slot_ok_lem}
 use Rattle.edit_entry.specs.declared.made.Fresh.{Fresh}
 use Rattle.edit_entry.specs.declared.made.Made.TheVariants.{Directory}
 use Rattle.model.specs.Prog.{make}
@@ -48,16 +45,12 @@ module _ {st : Store} (l : Lawful st) (e : count st ≡ 0) where
   placed : Placed st 0 0 []
   placed = record { last = omega arith; small = omega arith; short = omega arith }
 
-  module _ {s w : ℕ} (z : (s < length st.heads) × (get_or st.heads s 0 ≡ 0)) (f : w ≡ record_word 0 0 s) {rs' : List ℕ} {bs₁ : Bytes} (o : Opened st.records st.bytes rs' bs₁ (count st) 0 w [])
-      {hs' : List ℕ} {ts' : List ℤ} {bs' : Bytes} {new : Fresh} (y : Filled st.heads st.times bs₁ hs' ts' bs' s Directory new) {ws' : List ℕ} (g : ws' ≡ set st.words 2 (count st + 1)) where
-    abbrev st' : Store
-    st' = lent ws' rs' hs' ts' st.paths bs'
-
+  module _ {st' : Store} {new : Fresh} (u : PutAt st st' 0 0 [] Directory new) where
     abbrev h : ℕ
     h = head_made Directory new
 
-    made : Grown st st' [] [] (root_row s) h [] new.time
-    made = subst (λ (r : List Row). Grown st st' (take 0 r) (drop 0 r) (root_row s) h [] new.time) no_rows (grown l fits placed z f o y g)
+    made : Grown st st' [] [] (root_row u.slot) h [] new.time
+    made = subst (λ (r : List Row). Grown st st' (take 0 r) (drop 0 r) (root_row u.slot) h [] new.time) no_rows u.grown
 
     root-kind : kind_of h ≡ 1
     root-kind = kind-made Directory new (omega arith)
@@ -70,5 +63,8 @@ module _ {st : Store} (l : Lawful st) (e : count st ≡ 0) where
     unfolding tree_from
     rooted =
         subst (λ (n : ℕ). Spells st' (edited (make [] (new_meta n new.time)) (state st))) (mode-made Directory new (omega arith))
-        (grown-dir l made [] (λ f. root-tree f s) (root-rows (kind_at st') (length st.heads) s z.0 (ap kind_of (new-head l made) ∙ root-kind))
-        (slot_ok_lem l fits placed z f o y g) no-entry root-kind)
+        (grown-dir l made [] (λ f. root-tree f u.slot) (root-rows (kind_at st') (length st.heads) u.slot made.low (ap kind_of (new-head l made) ∙ root-kind))
+        (slot_ok_lem l fits u) no-entry root-kind)
+
+pub may-put-root : {st : Store} → Lawful st → MayRoot st → MayPut st 0 0 [] Directory
+may-put-root l m = record { place = placed l m.empty; allowed = fits l m.empty; free = m.free }

@@ -1,7 +1,9 @@
 -- `insert_root` meets its contract. Assumes nothing.
-use mathlib.Core.Path.{refl}
-use Rattle.edit_entry.proofs.Rooting.{rooted}
+use Rattle.edit_entry.proofs.Rooting.{may-put-root, rooted}
 use Rattle.edit_entry.proofs.insert.insert_root.Goals as goal
 
+pub put_in-requires : goal.put_in-requires
+put_in-requires c = let p = c.requires in (p.0, p.1, may-put-root p.1 p.2)
+
 pub returns : goal.returns
-returns c st l = rooted l c.requires.2.empty c.vacant_slot-s.ensures c.record_word-word.ensures c.open_entry.ensures c.fill_slot.ensures refl
+returns c st l = rooted l c.requires.2.empty (c.put_in.ensures st l (may-put-root l (record { empty = c.requires.2.empty; free = c.requires.2.free })))
