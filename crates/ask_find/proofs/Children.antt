@@ -1,7 +1,10 @@
 -- What `child` and `root` say, by what `find_child` answers: the records of a lawful store have one path each, so an entry that is
 -- found at another record than the hidden one is in the tree without it, and one that is found there is not.
 -- Assumes nothing.
-use mathlib.Core.Bool.{Bool, true, false, cond}
+use mathlib.Core.Bool.{Bool, true, false, true≢false, not, cond}
+use Rattle.std.proofs.lemmas.Bool.{not-false}
+use Rattle.std.specs.Option.{option_eq}
+use Rattle.std.specs.Prelude as option
 use Rattle.std.specs.Prelude.{Ok, Err}
 use mathlib.Core.List.{List, [], ◌∷◌, ◌++◌, append-nil}
 use mathlib.Core.Option.{Option, none, some}
@@ -33,7 +36,7 @@ use Rattle.ask_find.specs.declared.Spot.{Spot}
 use Rattle.ask_find.specs.declared.Gap.{Gap}
 use Rattle.ask_find.specs.Finds.{Place, spot, find_in}
 use Rattle.ask_find.specs.Paths.{slot_at, path_at}
-use Rattle.ask_find.specs.Spots.{At, Directory, Held, Hides, nothing, entry, Seen, between, instead, Looks, Rooted}
+use Rattle.ask_find.specs.Spots.{At, Directory, Held, hidden_at, Hides, nothing, entry, Seen, between, instead, Looks, Rooted}
 use Rattle.ask_find.proofs.Places.{found-slot, missing-gap}
 use Rattle.ask_find.proofs.Records.{total-live, path_next, path-look, path-rises, path-depth, root-path}
 use Rattle.ask_find.proofs.Instead.{gap-instead}
@@ -147,11 +150,11 @@ module _ (st : Store) (l : Lawful st) where
       named : path_at st s.at ++ (x ∷ []) ≡ p ++ (x ∷ [])
       named = ap (λ (o : Path). o ++ (x ∷ [])) a.path
 
-      pub child-found : (j o : ℕ) → (j ≡ h → ⊥) → Ok (spot j o) ≡ asked → Looks st h t p x (Ok (spot j o))
+      pub child-found : (j o : ℕ) → (j < count st → j ≡ h → ⊥) → Ok (spot j o) ≡ asked → Looks st h t p x (Ok (spot j o))
       child-found j o c z =
           let f = found-slot st l s.at a.within is-dir x n e j o z in
           let y = f.path ∙ named in
-          seen h t (p ++ (x ∷ [])) (record { at = j; off = o }) (record { within = f.within; offset = f.offset ∙ total-live st l j (omega (arith, f.within)); path = y }) (hides-next h t p x j f.within y c d)
+          seen h t (p ++ (x ∷ [])) (record { at = j; off = o }) (record { within = f.within; offset = f.offset ∙ total-live st l j (omega (arith, f.within)); path = y }) (hides-next h t p x j f.within y (c f.within) d)
 
       pub child-hidden : (j o g : ℕ) → j ≡ h → Ok (spot j o) ≡ asked → g ≡ depth_of (get_or st.records s.at 0) + 1 → Looks st h t p x (Err (record { at = j; off = o; depth = g }))
       child-hidden j o g c z i =
@@ -190,6 +193,16 @@ module _ (st : Store) (l : Lawful st) where
   pub root-missing : (g : Gap) → count st ≡ 0 → Rooted st (Err g)
   unfolding look tree_from rows
   root-missing g z = (ap (λ (n : ℕ). look (tree_from (node_at st) [] (rows (take n st.records) st.bytes)) []) z, z)
+
+-- a record that is not the one that is given is none that counts as not there
+pub not_hidden : (st : Store) → Lawful st → (o : option.Option ℕ) (j : ℕ) → not (option_eq eqb (option.Some j) o) ≡ true → j < count st → j ≡ hidden_at o → ⊥
+not_hidden st l option.None j n h e = omega (arith, e, h, l.counted, l.entry_limit.1)
+not_hidden st l (option.Some k) j n h e = true≢false (sym n ∙ ap not (eq-eqb j k e))
+
+-- and one that is, is
+pub is_hidden : (o : option.Option ℕ) (j : ℕ) → not (option_eq eqb (option.Some j) o) ≡ false → j ≡ hidden_at o
+is_hidden option.None j n = absurd (true≢false n)
+is_hidden (option.Some k) j n = eqb-true j k (not-false (eqb j k) n)
 
 -- ---- by the slices
 

@@ -1,12 +1,13 @@
 -- Entries of a store by value: the entry at a path, and the place of one that is missing.
 -- Assumes nothing.
-use Rattle.std.specs.Prelude.{Result, Ok, Err, List, [], ◌∷◌, ◌++◌, ◌≡◌, ℕ, suc, ◌+◌, ◌≤◌, ◌<◌, length, take, drop, get_or}
+use Rattle.std.specs.Prelude.{Option, None, Some, Result, Ok, Err, List, [], ◌∷◌, ◌++◌, ◌≡◌, ℕ, suc, ◌+◌, ◌≤◌, ◌<◌, length, take, drop, get_or}
 use Rattle.std.proofs.Math.Option.{none, some}
 use Rattle.text.specs.Utf8.{Bytes}
 use Rattle.path.specs.Path.{Name}
 use Rattle.model.specs.Tree.{Path, Entries, look, behind, cut}
 use Rattle.model.specs.Prog.{a_dir, kind?, answer}
 use Rattle.model.specs.Calls.States.{world_of}
+use Rattle.layout.specs.Numbers.{most_entries}
 use Rattle.layout.specs.Fields.{depth_of}
 use Rattle.layout.specs.Rows.{name_total}
 use Rattle.layout.specs.Store.{Store, count, live, rows_of, kind_at, state}
@@ -37,6 +38,11 @@ pub record Held (ws : List ℕ) (bs : Bytes) (s : Spot) : Type 0 where
   pub at : At store s path
 
 -- ---- an entry that counts as not there
+
+-- the record that does; where none is given, a number that no record has
+abbrev pub hidden_at : Option ℕ → ℕ
+hidden_at None = most_entries
+hidden_at (Some h) = h
 
 -- t is the tree where record h counts as not there, with all below it, and the path p does not lie there; a number that no record has
 -- hides nothing

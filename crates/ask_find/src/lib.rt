@@ -4,7 +4,7 @@ ghost use Rattle.std.specs.Prelude.{true, ◌≡◌, ◌+◌, ◌<◌, ◌≤◌
 ghost use Rattle.layout.specs.Fields.{depth_of, nlen_of};
 ghost use Rattle.name_order.specs.Order.{number};
 ghost use Rattle.ask_find.specs.Finds.{Within, scan, Passed};
-ghost use Rattle.ask_find.specs.Spots.{Held, ChildIs, RootIs};
+ghost use Rattle.ask_find.specs.Spots.{Held, hidden_at, ChildIs, RootIs};
 ghost use Rattle.ask_find.specs.Spans.{span};
 
 use layout::{depth_of, nlen_of};
@@ -128,23 +128,23 @@ fn find_child(
     find_from(records, bytes, d, spot, name)
 }
 
-// The entry `name` of the directory at the spot. The record `hidden` counts as not there, with all below it: an entry that stands
-// there is missing, and its place is free.
+// The entry `name` of the directory at the spot. The record `hidden`, if one is given, counts as not there, with all below it: an entry
+// that stands there is missing, and its place is free.
 pub fn child(
     records: &[u64],
     bytes: &[u8],
     dir: Spot,
     name: &[u8],
-    hidden: usize,
+    hidden: Option<usize>,
 ) -> Result<Spot, Gap>
     requires { Held records.now bytes.now dir }
-    ensures { ChildIs records.now bytes.now dir name.now hidden result }
+    ensures { ChildIs records.now bytes.now dir name.now (hidden_at hidden) result }
 {
     let w = records[dir.at];
     let d = depth_of(w);
     let depth = d + 1;
     match find_child(records, bytes, d, dir.behind(w), name) {
-        Ok(spot) if spot.at != hidden => Ok(spot),
+        Ok(spot) if Some(spot.at) != hidden => Ok(spot),
         Ok(spot) | Err(spot) => Err(spot.gap(depth)),
     }
 }

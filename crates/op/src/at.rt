@@ -11,14 +11,10 @@ ghost use Rattle.walk.specs.Lookups.{Walks, Looks};
 ghost use Rattle.walk.specs.Leads.{Leads};
 ghost use Rattle.walk.specs.Meets.{PathIn};
 
-use layout::MOST_ENTRIES;
 use layout::slices::Tree;
 use refusal::Refusal;
 use walk::There;
 use walk::lookup::{Looked, Walked};
-
-// No record has this number.
-const NONE: usize = MOST_ENTRIES as usize;
 
 // The entry that the path leads to.
 // kept: the buffer is lent by the caller, so the length of the path in front of it goes beside it.
@@ -28,7 +24,7 @@ pub fn leads(tree: Tree, work: &mut [u8], len: usize) -> Result<There, Refusal>
         (λ st s. Leads (steps.leads (links_in s.tree)) st s (world_of s) (take len work.old) work.new result) }
 {
     let bound = store::space::links(tree.words, tree.records, tree.heads);
-    walk::leads::leads(tree, work, len, NONE, bound)
+    walk::leads::leads(tree, work, len, None, bound)
 }
 
 // What the path comes to, there or not.
@@ -39,7 +35,7 @@ pub fn lookup(tree: Tree, work: &mut [u8], len: usize) -> Result<Looked, Refusal
         (λ st s. Looks st s (world_of s) most_entries (links_in s.tree) (take len work.old) work.new result) }
 {
     let bound = store::space::links(tree.words, tree.records, tree.heads);
-    walk::lookup::lookup_entry_detail(tree, work, len, NONE, bound)
+    walk::lookup::lookup_entry_detail(tree, work, len, None, bound)
 }
 
 // The same, with a last link not followed.
@@ -48,5 +44,5 @@ pub fn no_follow(tree: Tree, work: &mut [u8], len: usize) -> Result<Walked, Refu
     requires { Some (with_tree tree) × PathIn work.old len }
     ensures { Of (still (with_tree tree.entry)) (λ st s. Walks st s (world_of s) most_entries (take len work.old) work.new result) }
 {
-    walk::lookup::lookup_entry_detail_no_follow(tree, work, len, NONE)
+    walk::lookup::lookup_entry_detail_no_follow(tree, work, len, None)
 }

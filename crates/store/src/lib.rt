@@ -8,6 +8,7 @@ ghost use Rattle.layout.specs.Lent.{◌∘◌, with_words, with_records, with_he
 ghost use Rattle.layout.specs.Lent.{◌&◌, with_times, with_paths};
 ghost use Rattle.model.specs.Prog.{kind?, stat?, bare?, mask?};
 ghost use Rattle.model.specs.Calls.States.{world_of};
+ghost use Rattle.ask_find.specs.Spots.{hidden_at};
 ghost use Rattle.ask_entry.specs.Reads.{stat_from, Contents, PathIs};
 ghost use Rattle.store.specs.Shows.{Of, OfEntry, Some, SomeEntry, says, NumberIs, HeldIs, KeptIs, ChildIs, RootIs};
 
@@ -50,17 +51,17 @@ pub fn root(words: &[u64]) -> Result<Spot, Gap>
     ask_find::root(words[COUNT_AT] as usize)
 }
 
-// The entry `name` of the directory at the spot. The record `hidden` counts as not there, with all below it.
+// The entry `name` of the directory at the spot. The record `hidden`, if one is given, counts as not there, with all below it.
 pub fn child(
     words: &[u64],
     records: &[u64],
     bytes: &[u8],
     dir: Spot,
     name: &[u8],
-    hidden: usize,
+    hidden: Option<usize>,
 ) -> Result<Spot, Gap>
     requires { SomeEntry (with_words words.now ∘ with_records records.now ∘ with_bytes bytes.now) dir }
-    ensures { ChildIs (still (with_words words.now ∘ with_records records.now ∘ with_bytes bytes.now)) dir name.now hidden result }
+    ensures { ChildIs (still (with_words words.now ∘ with_records records.now ∘ with_bytes bytes.now)) dir name.now (hidden_at hidden) result }
 {
     ask_find::child(live(words, records), bytes, dir, name, hidden)
 }

@@ -3,6 +3,7 @@ ghost use Rattle.std.specs.Prelude.{◌≤◌, ◌<◌, take};
 ghost use Rattle.model.specs.Operations.Steps as steps;
 ghost use Rattle.layout.specs.Numbers.{most_entries};
 ghost use Rattle.layout.specs.Lent.{with_tree, still};
+ghost use Rattle.ask_find.specs.Spots.{hidden_at};
 ghost use Rattle.store.specs.Shows.{Some};
 ghost use Rattle.walk.specs.Meets.{PathIn};
 ghost use Rattle.walk.specs.Leads.{LeadsIn, LastIn};
@@ -20,11 +21,11 @@ pub fn leads(
     tree: Tree,
     out: &mut [u8],
     len: usize,
-    hidden: usize,
+    hidden: Option<usize>,
     bound: usize,
 ) -> Result<There, Refusal>
-    requires { Some (with_tree tree) × PathIn out.old len × (bound ≤ most_entries) × (0 < hidden) }
-    ensures { LeadsIn (still (with_tree tree.entry)) (steps.leads bound) (take len out.old) hidden out.new result }
+    requires { Some (with_tree tree) × PathIn out.old len × (bound ≤ most_entries) × (0 < hidden_at hidden) }
+    ensures { LeadsIn (still (with_tree tree.entry)) (steps.leads bound) (take len out.old) (hidden_at hidden) out.new result }
 {
     match lookup_entry_detail(tree, out, len, hidden, bound)? {
         Looked::Found(there) => Ok(there),
@@ -38,11 +39,11 @@ pub fn find_directory(
     tree: Tree,
     out: &mut [u8],
     len: usize,
-    hidden: usize,
+    hidden: Option<usize>,
     bound: usize,
 ) -> Result<There, Refusal>
-    requires { Some (with_tree tree) × PathIn out.old len × (bound ≤ most_entries) × (0 < hidden) }
-    ensures { LeadsIn (still (with_tree tree.entry)) (steps.directory bound) (take len out.old) hidden out.new result }
+    requires { Some (with_tree tree) × PathIn out.old len × (bound ≤ most_entries) × (0 < hidden_at hidden) }
+    ensures { LeadsIn (still (with_tree tree.entry)) (steps.directory bound) (take len out.old) (hidden_at hidden) out.new result }
 {
     let there = leads(tree, out, len, hidden, bound)?;
     match there.kind {
@@ -67,11 +68,11 @@ pub fn last_entry(
     out: &mut [u8],
     len: usize,
     name: &[u8],
-    hidden: usize,
+    hidden: Option<usize>,
     bound: usize,
 ) -> Result<Last, Refusal>
-    requires { Some (with_tree tree) × PathIn out.old len × (bound ≤ most_entries) × (0 < hidden) }
-    ensures { LastIn (still (with_tree tree.entry)) (take len out.old) name.now hidden bound out.new result }
+    requires { Some (with_tree tree) × PathIn out.old len × (bound ≤ most_entries) × (0 < hidden_at hidden) }
+    ensures { LastIn (still (with_tree tree.entry)) (take len out.old) name.now (hidden_at hidden) bound out.new result }
 {
     let dir = find_directory(tree, out, len, hidden, bound)?;
     match store::child(tree.words, tree.records, tree.bytes, dir.spot, name, hidden) {

@@ -1,6 +1,6 @@
 #![tactic(auto)]
 // The lookups over a store (01, "Lookups"). A path is a text as it stands in a working buffer: a slash before each name, nothing for the
-// root. `hidden` is the record of an entry that counts as out; a number that no record has hides nothing.
+// root. `hidden` is the record of an entry that counts as out, if one does.
 pub mod leads;
 pub mod link;
 pub mod lookup;

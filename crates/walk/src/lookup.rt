@@ -2,6 +2,7 @@
 ghost use Rattle.std.specs.Prelude.{◌≡◌, ◌+◌, ◌≤◌, ◌<◌, take};
 ghost use Rattle.layout.specs.Numbers.{most_entries};
 ghost use Rattle.layout.specs.Lent.{with_tree, still};
+ghost use Rattle.ask_find.specs.Spots.{hidden_at};
 ghost use Rattle.store.specs.Shows.{Some};
 ghost use Rattle.walk.specs.Meets.{PathIn};
 ghost use Rattle.walk.specs.Lookups.{WalksIn, LooksIn};
@@ -71,10 +72,10 @@ pub fn lookup_entry_detail_no_follow(
     tree: Tree,
     out: &mut [u8],
     len: usize,
-    hidden: usize,
+    hidden: Option<usize>,
 ) -> Result<Walked, Refusal>
-    requires { Some (with_tree tree) × PathIn out.old len × (0 < hidden) }
-    ensures { WalksIn (still (with_tree tree.entry)) (take len out.old) hidden out.new result }
+    requires { Some (with_tree tree) × PathIn out.old len × (0 < hidden_at hidden) }
+    ensures { WalksIn (still (with_tree tree.entry)) (take len out.old) (hidden_at hidden) out.new result }
 {
     let mut n = len;
     let mut walk = Walk::new();
@@ -101,11 +102,11 @@ pub fn lookup_entry_detail(
     tree: Tree,
     out: &mut [u8],
     len: usize,
-    hidden: usize,
+    hidden: Option<usize>,
     bound: usize,
 ) -> Result<Looked, Refusal>
-    requires { Some (with_tree tree) × PathIn out.old len × (bound ≤ most_entries) × (0 < hidden) }
-    ensures { LooksIn (still (with_tree tree.entry)) (take len out.old) hidden bound out.new result }
+    requires { Some (with_tree tree) × PathIn out.old len × (bound ≤ most_entries) × (0 < hidden_at hidden) }
+    ensures { LooksIn (still (with_tree tree.entry)) (take len out.old) (hidden_at hidden) bound out.new result }
 {
     let mut left = bound;
     let mut n = len;

@@ -1,6 +1,7 @@
 // lookup_entry_detail_until_symlink.
 ghost use Rattle.std.specs.Prelude.{◌<◌};
 ghost use Rattle.layout.specs.Lent.{with_tree, still};
+ghost use Rattle.ask_find.specs.Spots.{hidden_at};
 ghost use Rattle.store.specs.Shows.{Some};
 ghost use Rattle.walk.specs.Meets.{Plain, MeetsIn};
 
@@ -10,15 +11,15 @@ use layout::slices::Tree;
 use path::pieces::piece_end;
 use refusal::Refusal;
 
-// From the root on, name by name, to the first link or the end; NotDirectory: a file before the last name. `hidden` is not 0: the root,
-// record 0, is never hidden, and who hides nothing passes a number from the entry limit on.
+// From the root on, name by name, to the first link or the end; NotDirectory: a file before the last name. The root, record 0, is never
+// hidden.
 pub fn lookup_entry_detail_until_symlink(
     tree: Tree,
     path: &[u8],
-    hidden: usize,
+    hidden: Option<usize>,
 ) -> Result<Met, Refusal>
-    requires { Some (with_tree tree) × Plain path.now × (0 < hidden) }
-    ensures { MeetsIn (still (with_tree tree.entry)) path.now hidden result }
+    requires { Some (with_tree tree) × Plain path.now × (0 < hidden_at hidden) }
+    ensures { MeetsIn (still (with_tree tree.entry)) path.now (hidden_at hidden) result }
 {
     let mut spot = match store::root(tree.words) {
         Ok(s) => s,

@@ -9,8 +9,9 @@ use Rattle.layout.specs.Store.{Store, count, live, rows_of}
 use Rattle.layout.specs.Lawful.{Lawful}
 use Rattle.ask_find.specs.declared.Spot.{Spot}
 use Rattle.ask_find.specs.Finds.{Place, find_in, scan}
+use Rattle.ask_find.specs.Spots.{hidden_at}
 use Rattle.ask_find.proofs.Scan as scanning
-use Rattle.ask_find.proofs.Children.{Ready, ready, asked_is, next_is, depth_is, child-found, child-hidden, child-missing}
+use Rattle.ask_find.proofs.Children.{Ready, ready, asked_is, next_is, depth_is, child-found, child-hidden, child-missing, not_hidden, is_hidden}
 use Rattle.ask_find.proofs.child.Goals.{After-find_child, Start, in-Ok-2-2, in-Ok-2}
 use Rattle.ask_find.proofs.child.Goals as goal
 
@@ -60,7 +61,7 @@ returns-in-Ok c =
     let s = c.args in
     let w = (goal.at.returns-in-Ok c).After-find_child in
     let i = (goal.at.returns-in-Ok c).Start in
-    child-found st l s.dir p a s.hidden t d k s.name.now (next i) (offset i st e f l a.within) c.in-Ok.spot.at c.in-Ok.spot.off c.if-spot-hidden.true (told w _ c.in-Ok.ensures st e f a.within)
+    child-found st l s.dir p a (hidden_at s.hidden) t d k s.name.now (next i) (offset i st e f l a.within) c.in-Ok.spot.at c.in-Ok.spot.off (not_hidden st l s.hidden c.in-Ok.spot.at (sym c.ne.ensures ∙ c.if-ne.true)) (told w _ c.in-Ok.ensures st e f a.within)
 
 -- an entry that is hidden, or missing
 pub returns-in-Ok-2 : goal.returns-in-Ok-2
@@ -72,6 +73,6 @@ returns-in-Ok-2 c =
     let o = offset i st e f l a.within in
     let n = deep w st e f a.within in
     rw c.gap.ensures (elim c.in-Ok-2-1.branch [
-      | in-Ok-2-2 v ↦ rw v.spot-is (child-hidden st l s.dir p a s.hidden t d k s.name.now (next i) o v.in-Ok.spot.at v.in-Ok.spot.off (c.depth_of-d.result + 1) v.if-spot-hidden.false (told w _ v.in-Ok.ensures st e f a.within) n)
-      | in-Ok-2 v ↦ rw v.spot-is (child-missing st l s.dir p a s.hidden t d k s.name.now (next i) o v.in-Ok-2.spot.at v.in-Ok-2.spot.off (c.depth_of-d.result + 1) (told w _ v.in-Ok-2.ensures st e f a.within) n)
+      | in-Ok-2-2 v ↦ rw v.spot-is (child-hidden st l s.dir p a (hidden_at s.hidden) t d k s.name.now (next i) o v.in-Ok.spot.at v.in-Ok.spot.off (c.depth_of-d.result + 1) (is_hidden s.hidden v.in-Ok.spot.at (sym v.ne.ensures ∙ v.if-ne.false)) (told w _ v.in-Ok.ensures st e f a.within) n)
+      | in-Ok-2 v ↦ rw v.spot-is (child-missing st l s.dir p a (hidden_at s.hidden) t d k s.name.now (next i) o v.in-Ok-2.spot.at v.in-Ok-2.spot.off (c.depth_of-d.result + 1) (told w _ v.in-Ok-2.ensures st e f a.within) n)
     ])

@@ -5,6 +5,7 @@ use native.Mathlib.Omega.{arith}
 use lib.ListN.{length}
 use Rattle.std.proofs.lemmas.Result.{err_from_is_err_and}
 use Rattle.layout.specs.Lent.{with_tree}
+use Rattle.ask_find.specs.Spots.{hidden_at}
 use Rattle.walk.proofs.Passing.{some_link}
 use Rattle.walk.proofs.Chains.{walks-few, chain-stopped, chain-found, chain-missing, chain_link, chain-loop, chain-long, chain_on}
 use Rattle.walk.proofs.lookup.lookup_entry_detail.Goals.{In_ok-w, Else-left-eq0}
@@ -42,7 +43,7 @@ returns-then-left-eq0 c = chain-loop c.loop-w.invariant _ _ c.in_ok-w.ensures _ 
 pub behind_link-requires : goal.behind_link-requires
 behind_link-requires c =
     let w = (goal.at.behind_link-requires c).In_ok-w in (
-      some_link (with_tree c.args.tree) c.args.hidden _ _ _ _ c.requires.0 (chain_link c.loop-w.invariant _ _ c.in_ok-w.ensures _ _ c.in-LastLink.is (within w)),
+      some_link (with_tree c.args.tree) (hidden_at c.args.hidden) _ _ _ _ c.requires.0 (chain_link c.loop-w.invariant _ _ c.in_ok-w.ensures _ _ c.in-LastLink.is (within w)),
       (low w).1,
       omega (arith, c.loop-w.invariant.long, c.requires.1.room),
     )

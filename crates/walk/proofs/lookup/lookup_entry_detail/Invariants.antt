@@ -3,11 +3,12 @@
 -- Assumes nothing.
 use lib.ListN.{take}
 use Rattle.layout.specs.Lent.{with_tree}
+use Rattle.ask_find.specs.Spots.{hidden_at}
 use Rattle.walk.proofs.Chains.{Chained}
 use Rattle.walk.proofs.lookup.lookup_entry_detail.Given as goal
 
 abbrev pub invariant-loop-w : goal.invariant-loop-w
-invariant-loop-w l = Chained (with_tree l.tree) l.hidden l.bound (take l.fn.len l.initial.out) l.initial.out l.out l.left l.n l.links
+invariant-loop-w l = Chained (with_tree l.tree) (hidden_at l.hidden) l.bound (take l.fn.len l.initial.out) l.initial.out l.out l.left l.n l.links
 
 abbrev pub decreases-loop-w : goal.decreases-loop-w
 decreases-loop-w l = l.left

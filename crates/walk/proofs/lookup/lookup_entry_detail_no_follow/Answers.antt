@@ -4,6 +4,7 @@ use Prim.Native.Nat.{◌<◌}
 use native.Mathlib.Omega.{arith}
 use Rattle.std.proofs.lemmas.Result.{err_from_is_err_and}
 use Rattle.layout.specs.Lent.{with_tree}
+use Rattle.ask_find.specs.Spots.{hidden_at}
 use Rattle.walk.proofs.Passing.{some_link, go-stopped, go-ended, go-link, go-loop, go-long, go_on}
 use Rattle.walk.proofs.lookup.lookup_entry_detail_no_follow.Goals.{Else-links-eq-MOST}
 use Rattle.walk.proofs.lookup.lookup_entry_detail_no_follow.Goals as goal
@@ -27,7 +28,7 @@ returns-then-links-eq-MOST c = go-loop c.loop-end.invariant _ c.in_ok-end.ensure
 pub behind_link-requires : goal.behind_link-requires
 behind_link-requires c =
     let l = c.loop-end.invariant in (
-      some_link (with_tree c.args.tree) c.args.hidden _ _ _ _ c.requires.0 (go-link l _ c.in_ok-end.ensures _ _ _ c.in-MidLink.is),
+      some_link (with_tree c.args.tree) (hidden_at c.args.hidden) _ _ _ _ c.requires.0 (go-link l _ c.in_ok-end.ensures _ _ _ c.in-MidLink.is),
       l.fits,
       omega (arith, l.long, c.requires.1.room),
     )

@@ -13,6 +13,7 @@ use Rattle.model.specs.Calls.States.{State}
 use Rattle.layout.specs.Kinds.{kind_from}
 use Rattle.layout.specs.Store.{Store}
 use Rattle.layout.specs.Lent.{with_tree}
+use Rattle.ask_find.specs.Spots.{hidden_at}
 use Rattle.store.specs.Shows.{Shows, Asked}
 use Rattle.walk.proofs.Reached.{Reached, kind-is, no_root, at-root, at-slash, at-file, at-link, at-gone, at_next, at-last-link, at_entry}
 use Rattle.walk.proofs.Rooted.{some_asked, never, root_there}
@@ -21,19 +22,19 @@ use Rattle.walk.proofs.until.lookup_entry_detail_until_symlink.Goals as goal
 
 -- the caller's store in a world that it shows
 abbrev first : (c : At-loop-e) → let p = c.requires.0 in let u = with_tree c.args.tree p.0 in
-    Reached u p.1 (some_asked u p.1 c.args.hidden).0 c.args.path.now c.loop-e.spot c.loop-e.dir c.loop-e.e
-first c = let p = c.requires.0 in let w = some_asked (with_tree c.args.tree p.0) p.1 c.args.hidden in c.loop-e.invariant p.0 p.1 w.0 p.2 w.1
+    Reached u p.1 (some_asked u p.1 (hidden_at c.args.hidden)).0 c.args.path.now c.loop-e.spot c.loop-e.dir c.loop-e.e
+first c = let p = c.requires.0 in let w = some_asked (with_tree c.args.tree p.0) p.1 (hidden_at c.args.hidden) in c.loop-e.invariant p.0 p.1 w.0 p.2 w.1
 
 -- the entry that was come to is a directory
 is-dir : (c : In-Directory) → let u = with_tree c.args.tree in
-    (st : Store) (s : State) (w : World) (x : Shows (u st) s) (y : Asked (u st) s c.args.hidden w) → answer (kind? (c.loop-e.invariant st s w x y).here) w ≡ some a_dir
+    (st : Store) (s : State) (w : World) (x : Shows (u st) s) (y : Asked (u st) s (hidden_at c.args.hidden) w) → answer (kind? (c.loop-e.invariant st s w x y).here) w ≡ some a_dir
 is-dir c st s w x y = let r = c.loop-e.invariant st s w x y in kind-is r a_dir (c.in-Directory.ensures (with_tree c.args.tree st) s x r.here r.there.at)
 
 pub returns-in-Err : goal.returns-in-Err
-returns-in-Err c = λ st s x w y. let m = c.in-Err.ensures (with_tree c.args.tree st) s x in no_root _ m.1 (never _ s c.args.hidden w y m.0 m.1)
+returns-in-Err c = λ st s x w y. let m = c.in-Err.ensures (with_tree c.args.tree st) s x in no_root _ m.1 (never _ s (hidden_at c.args.hidden) w y m.0 m.1)
 
 pub loop-e-init : goal.loop-e-init
-loop-e-init c = λ st s w x y. at-root _ c.requires.1 (root_there _ s x _ (c.in-Ok.ensures (with_tree c.args.tree st) s x) c.args.hidden w c.requires.2 y)
+loop-e-init c = λ st s w x y. at-root _ c.requires.1 (root_there _ s x _ (c.in-Ok.ensures (with_tree c.args.tree st) s x) (hidden_at c.args.hidden) w c.requires.2 y)
 
 pub returns-in-File : goal.returns-in-File
 returns-in-File c = λ st s x w y. let r = c.loop-e.invariant st s w x y in at-file r c.loop-e-test.true (kind-is r aFile (c.in-File.ensures (with_tree c.args.tree st) s x r.here r.there.at))

@@ -9,12 +9,13 @@ use Rattle.model.specs.Prog.{World}
 use Rattle.model.specs.Calls.States.{State}
 use Rattle.layout.specs.Store.{Store}
 use Rattle.layout.specs.Lent.{with_tree}
+use Rattle.ask_find.specs.Spots.{hidden_at}
 use Rattle.store.specs.Shows.{Shows, Asked}
 use Rattle.walk.proofs.Reached.{Reached}
 use Rattle.walk.proofs.until.lookup_entry_detail_until_symlink.Given as goal
 
 abbrev pub invariant-loop-e : goal.invariant-loop-e
-invariant-loop-e l = (st : Store) (s : State) (w : World) → Shows (with_tree l.tree st) s → Asked (with_tree l.tree st) s l.hidden w
+invariant-loop-e l = (st : Store) (s : State) (w : World) → Shows (with_tree l.tree st) s → Asked (with_tree l.tree st) s (hidden_at l.hidden) w
     → Reached (with_tree l.tree st) s w l.path l.spot l.dir l.e
 
 abbrev pub decreases-loop-e : goal.decreases-loop-e
