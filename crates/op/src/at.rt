@@ -1,6 +1,6 @@
 // The lookups of a call at the path in front of its working buffer: no entry counts as out, and of last links as many are followed as
 // there are links in the tree, which are counted once.
-ghost use Rattle.std.specs.Prelude.{take};
+ghost use Rattle.std.specs.Prelude.{None, ◌≡◌, take};
 ghost use Rattle.model.specs.Tree.{links_in};
 ghost use Rattle.model.specs.Operations.Steps as steps;
 ghost use Rattle.model.specs.Calls.States.{world_of};
@@ -13,8 +13,22 @@ ghost use Rattle.walk.specs.Meets.{PathIn};
 
 use layout::slices::Tree;
 use refusal::Refusal;
-use walk::There;
 use walk::lookup::{Looked, Walked};
+use walk::{Search, There};
+
+// What they look in.
+fn whole<'a>(tree: Tree<'a>) -> Search<'a>
+    requires { Some (with_tree tree) }
+    ensures tree { result.tree ≡ tree.entry }
+    ensures hidden { result.hidden ≡ None }
+    ensures bound { Of (still (with_tree tree.entry)) (λ _ s. result.bound ≡ links_in s.tree) }
+{
+    Search {
+        tree,
+        hidden: None,
+        bound: store::space::links(tree.words, tree.records, tree.heads),
+    }
+}
 
 // The entry that the path leads to.
 // kept: the buffer is lent by the caller, so the length of the path in front of it goes beside it.
@@ -23,8 +37,7 @@ pub fn leads(tree: Tree, work: &mut [u8], len: usize) -> Result<There, Refusal>
     ensures { Of (still (with_tree tree.entry))
         (λ st s. Leads (steps.leads (links_in s.tree)) st s (world_of s) (take len work.old) work.new result) }
 {
-    let bound = store::space::links(tree.words, tree.records, tree.heads);
-    walk::leads::leads(tree, work, len, None, bound)
+    walk::leads::leads(whole(tree), work, len)
 }
 
 // What the path comes to, there or not.
@@ -34,8 +47,7 @@ pub fn lookup(tree: Tree, work: &mut [u8], len: usize) -> Result<Looked, Refusal
     ensures { Of (still (with_tree tree.entry))
         (λ st s. Looks st s (world_of s) most_entries (links_in s.tree) (take len work.old) work.new result) }
 {
-    let bound = store::space::links(tree.words, tree.records, tree.heads);
-    walk::lookup::lookup_entry_detail(tree, work, len, None, bound)
+    walk::lookup::lookup_entry_detail(whole(tree), work, len)
 }
 
 // The same, with a last link not followed.

@@ -1,33 +1,25 @@
 // From a path to what is there: the entry that it leads to, the directory (find_directory_mut), and the entry of its last name.
-ghost use Rattle.std.specs.Prelude.{◌≤◌, ◌<◌, take};
+ghost use Rattle.std.specs.Prelude.{take};
 ghost use Rattle.model.specs.Operations.Steps as steps;
-ghost use Rattle.layout.specs.Numbers.{most_entries};
 ghost use Rattle.layout.specs.Lent.{with_tree, still};
 ghost use Rattle.ask_find.specs.Spots.{hidden_at};
 ghost use Rattle.store.specs.Shows.{Some};
 ghost use Rattle.walk.specs.Meets.{PathIn};
 ghost use Rattle.walk.specs.Leads.{LeadsIn, LastIn};
 
-use crate::There;
 use crate::lookup::{Looked, lookup_entry_detail};
+use crate::{Search, There};
 use ask_find::Gap;
 use layout::kind::Kind;
-use layout::slices::Tree;
 use refusal::Refusal;
 
 // The path in out[..len] leads to an entry that is there, no link; NotFound: it does not.
 // kept: the buffer is lent by the caller, so the length of the path in front of it goes beside it.
-pub fn leads(
-    tree: Tree,
-    out: &mut [u8],
-    len: usize,
-    hidden: Option<usize>,
-    bound: usize,
-) -> Result<There, Refusal>
-    requires { Some (with_tree tree) × PathIn out.old len × (bound ≤ most_entries) × (0 < hidden_at hidden) }
-    ensures { LeadsIn (still (with_tree tree.entry)) (steps.leads bound) (take len out.old) (hidden_at hidden) out.new result }
+pub fn leads(scope: Search, out: &mut [u8], len: usize) -> Result<There, Refusal>
+    requires { Some (with_tree scope.tree) × PathIn out.old len }
+    ensures { let q = scope.entry in LeadsIn (still (with_tree q.tree)) (steps.leads q.bound) (take len out.old) (hidden_at q.hidden) out.new result }
 {
-    match lookup_entry_detail(tree, out, len, hidden, bound)? {
+    match lookup_entry_detail(scope, out, len)? {
         Looked::Found(there) => Ok(there),
         Looked::Missing(_) => Err(Refusal::NotFound),
     }
@@ -35,17 +27,11 @@ pub fn leads(
 
 // find_directory_mut: the path in out[..len] leads to a directory; NotFound: missing, NotDirectory: a file.
 // kept: the buffer is lent by the caller, so the length of the path in front of it goes beside it.
-pub fn find_directory(
-    tree: Tree,
-    out: &mut [u8],
-    len: usize,
-    hidden: Option<usize>,
-    bound: usize,
-) -> Result<There, Refusal>
-    requires { Some (with_tree tree) × PathIn out.old len × (bound ≤ most_entries) × (0 < hidden_at hidden) }
-    ensures { LeadsIn (still (with_tree tree.entry)) (steps.directory bound) (take len out.old) (hidden_at hidden) out.new result }
+pub fn find_directory(scope: Search, out: &mut [u8], len: usize) -> Result<There, Refusal>
+    requires { Some (with_tree scope.tree) × PathIn out.old len }
+    ensures { let q = scope.entry in LeadsIn (still (with_tree q.tree)) (steps.directory q.bound) (take len out.old) (hidden_at q.hidden) out.new result }
 {
-    let there = leads(tree, out, len, hidden, bound)?;
+    let there = leads(scope, out, len)?;
     match there.kind {
         Kind::Directory => Ok(there),
         _ => Err(Refusal::NotDirectory),
@@ -63,18 +49,12 @@ pub enum Last {
 
 // The entry `name` of the directory to which the path in out[..len] leads, there or not; only that path is followed.
 // kept: the buffer is lent by the caller, so the length of the path in front of it goes beside it.
-pub fn last_entry(
-    tree: Tree,
-    out: &mut [u8],
-    len: usize,
-    name: &[u8],
-    hidden: Option<usize>,
-    bound: usize,
-) -> Result<Last, Refusal>
-    requires { Some (with_tree tree) × PathIn out.old len × (bound ≤ most_entries) × (0 < hidden_at hidden) }
-    ensures { LastIn (still (with_tree tree.entry)) (take len out.old) name.now (hidden_at hidden) bound out.new result }
+pub fn last_entry(scope: Search, out: &mut [u8], len: usize, name: &[u8]) -> Result<Last, Refusal>
+    requires { Some (with_tree scope.tree) × PathIn out.old len }
+    ensures { let q = scope.entry in LastIn (still (with_tree q.tree)) (take len out.old) name.now (hidden_at q.hidden) q.bound out.new result }
 {
-    let dir = find_directory(tree, out, len, hidden, bound)?;
+    let dir = find_directory(scope, out, len)?;
+    let Search { tree, hidden, .. } = scope;
     match store::child(tree.words, tree.records, tree.bytes, dir.spot, name, hidden) {
         Ok(spot) => {
             let kind = store::kind(tree.words, tree.records, tree.heads, spot);

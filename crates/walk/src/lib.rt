@@ -1,6 +1,10 @@
 #![tactic(auto)]
 // The lookups over a store (01, "Lookups"). A path is a text as it stands in a working buffer: a slash before each name, nothing for the
 // root. `hidden` is the record of an entry that counts as out, if one does.
+ghost use Rattle.std.specs.Prelude.{◌≤◌, ◌<◌};
+ghost use Rattle.layout.specs.Numbers.{most_entries};
+ghost use Rattle.ask_find.specs.Spots.{hidden_at};
+
 pub mod leads;
 pub mod link;
 pub mod lookup;
@@ -8,6 +12,18 @@ pub mod until;
 
 use ask_find::{Gap, Spot};
 use layout::kind::Kind;
+use layout::slices::Tree;
+
+// What paths are looked up in: the slices that hold the tree, the record of an entry that counts as out, if one does, and how many last
+// links may be followed, the number of links in the tree. The root, record 0, is never hidden.
+#[derive(Clone, Copy)]
+pub struct Search<'a> {
+    pub tree: Tree<'a>,
+    pub hidden: Option<usize>,
+    pub bound: usize,
+    ghost rooted: { 0 < hidden_at hidden },
+    ghost few: { bound ≤ most_entries },
+}
 
 // What a walk that follows no last link ends in.
 #[derive(Clone, Copy)]

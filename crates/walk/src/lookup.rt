@@ -1,6 +1,5 @@
 // lookup_entry_detail_no_follow and lookup_entry_detail.
-ghost use Rattle.std.specs.Prelude.{◌≡◌, ◌+◌, ◌≤◌, ◌<◌, take};
-ghost use Rattle.layout.specs.Numbers.{most_entries};
+ghost use Rattle.std.specs.Prelude.{◌≡◌, ◌+◌, ◌<◌, take};
 ghost use Rattle.layout.specs.Lent.{with_tree, still};
 ghost use Rattle.ask_find.specs.Spots.{hidden_at};
 ghost use Rattle.store.specs.Shows.{Some};
@@ -9,7 +8,7 @@ ghost use Rattle.walk.specs.Lookups.{WalksIn, LooksIn};
 
 use crate::link::behind_link;
 use crate::until::lookup_entry_detail_until_symlink;
-use crate::{End, Met, There};
+use crate::{End, Met, Search, There};
 use ask_find::Gap;
 use layout::slices::Tree;
 use refusal::Refusal;
@@ -98,22 +97,16 @@ pub fn lookup_entry_detail_no_follow(
 // The path in out[..len], with all its links followed; of last links as many as the bound, the number of links in the tree. The root,
 // record 0, is never hidden.
 // kept: the buffer is lent by the caller, so the length of the path in front of it goes beside it.
-pub fn lookup_entry_detail(
-    tree: Tree,
-    out: &mut [u8],
-    len: usize,
-    hidden: Option<usize>,
-    bound: usize,
-) -> Result<Looked, Refusal>
-    requires { Some (with_tree tree) × PathIn out.old len × (bound ≤ most_entries) × (0 < hidden_at hidden) }
-    ensures { LooksIn (still (with_tree tree.entry)) (take len out.old) (hidden_at hidden) bound out.new result }
+pub fn lookup_entry_detail(scope: Search, out: &mut [u8], len: usize) -> Result<Looked, Refusal>
+    requires { Some (with_tree scope.tree) × PathIn out.old len }
+    ensures { let q = scope.entry in LooksIn (still (with_tree q.tree)) (take len out.old) (hidden_at q.hidden) q.bound out.new result }
 {
-    let mut left = bound;
+    let mut left = scope.bound;
     let mut n = len;
     let mut links = 0;
     // kept: a last link is refused before its path is formed, so the count is tested within a turn, and a `for` would have to fail twice.
     loop {
-        let w = lookup_entry_detail_no_follow(tree, out, n, hidden)?;
+        let w = lookup_entry_detail_no_follow(scope.tree, out, n, scope.hidden)?;
         let len = w.len;
         links += w.links;
         match w.end {
@@ -139,7 +132,7 @@ pub fn lookup_entry_detail(
                 if left == 0 {
                     return Err(Refusal::LinkLoop);
                 }
-                n = behind_link(tree, out, len, spot, dir, len)?;
+                n = behind_link(scope.tree, out, len, spot, dir, len)?;
                 left -= 1;
                 links += 1;
             }

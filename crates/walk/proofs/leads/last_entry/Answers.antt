@@ -16,20 +16,20 @@ returns-in_err-dir c =
 pub child-requires : goal.child-requires
 child-requires c =
     let p = c.requires.0 in
-    let u = with_tree c.args.tree p.0 in
-    let w = some_asked u p.1 (hidden_at c.args.hidden) in
-    (u, p.1, _, p.2, dir-stands (hidden_at c.args.hidden) _ c.args.name.now _ (c.in_ok-dir.ensures p.0 p.1 p.2 w.0 w.1))
+    let u = with_tree c.args.scope.tree p.0 in
+    let w = some_asked u p.1 (hidden_at c.args.scope.hidden) in
+    (u, p.1, _, p.2, dir-stands (hidden_at c.args.scope.hidden) _ c.args.name.now _ (c.in_ok-dir.ensures p.0 p.1 p.2 w.0 w.1))
 
 pub returns-in-Ok : goal.returns-in-Ok
 returns-in-Ok c =
     λ st s h w y.
-    let a = c.args in let u = with_tree a.tree st in let x = a.name.now in let f = c.in_ok-dir.ensures st s h w y in
-    let i = c.in-Ok.ensures u s h _ w (dir-stands (hidden_at a.hidden) _ x _ f) y (dir-kind (hidden_at a.hidden) _ x _ f) in
-    last_found (hidden_at a.hidden) _ x _ f _ _ i (λ t. c.kind-kind.ensures u s h _ t.at)
+    let a = c.args in let u = with_tree a.scope.tree st in let x = a.name.now in let f = c.in_ok-dir.ensures st s h w y in
+    let i = c.in-Ok.ensures u s h _ w (dir-stands (hidden_at a.scope.hidden) _ x _ f) y (dir-kind (hidden_at a.scope.hidden) _ x _ f) in
+    last_found (hidden_at a.scope.hidden) _ x _ f _ _ i (λ t. c.kind-kind.ensures u s h _ t.at)
 
 pub returns-in-Err : goal.returns-in-Err
 returns-in-Err c =
     λ st s h w y.
-    let a = c.args in let u = with_tree a.tree st in let x = a.name.now in let f = c.in_ok-dir.ensures st s h w y in
-    let i = c.in-Err.ensures u s h _ w (dir-stands (hidden_at a.hidden) _ x _ f) y (dir-kind (hidden_at a.hidden) _ x _ f) in
-    last_missing (hidden_at a.hidden) _ x _ f _ i
+    let a = c.args in let u = with_tree a.scope.tree st in let x = a.name.now in let f = c.in_ok-dir.ensures st s h w y in
+    let i = c.in-Err.ensures u s h _ w (dir-stands (hidden_at a.scope.hidden) _ x _ f) y (dir-kind (hidden_at a.scope.hidden) _ x _ f) in
+    last_missing (hidden_at a.scope.hidden) _ x _ f _ i

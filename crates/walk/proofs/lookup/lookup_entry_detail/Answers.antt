@@ -43,7 +43,7 @@ returns-then-left-eq0 c = chain-loop c.loop-w.invariant _ _ c.in_ok-w.ensures _ 
 pub behind_link-requires : goal.behind_link-requires
 behind_link-requires c =
     let w = (goal.at.behind_link-requires c).In_ok-w in (
-      some_link (with_tree c.args.tree) (hidden_at c.args.hidden) _ _ _ _ c.requires.0 (chain_link c.loop-w.invariant _ _ c.in_ok-w.ensures _ _ c.in-LastLink.is (within w)),
+      some_link (with_tree c.args.scope.tree) (hidden_at c.args.scope.hidden) _ _ _ _ c.requires.0 (chain_link c.loop-w.invariant _ _ c.in_ok-w.ensures _ _ c.in-LastLink.is (within w)),
       (low w).1,
       omega (arith, c.loop-w.invariant.long, c.requires.1.room),
     )

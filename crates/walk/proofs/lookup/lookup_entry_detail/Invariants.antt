@@ -8,7 +8,7 @@ use Rattle.walk.proofs.Chains.{Chained}
 use Rattle.walk.proofs.lookup.lookup_entry_detail.Given as goal
 
 abbrev pub invariant-loop-w : goal.invariant-loop-w
-invariant-loop-w l = Chained (with_tree l.tree) (hidden_at l.hidden) l.bound (take l.fn.len l.initial.out) l.initial.out l.out l.left l.n l.links
+invariant-loop-w l = Chained (with_tree l.scope.tree) (hidden_at l.scope.hidden) l.scope.bound (take l.fn.len l.initial.out) l.initial.out l.out l.left l.n l.links
 
 abbrev pub decreases-loop-w : goal.decreases-loop-w
 decreases-loop-w l = l.left
