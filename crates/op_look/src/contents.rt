@@ -36,9 +36,9 @@ pub fn read_link_at(
 {
     let walked = no_follow(tree, work, len)?;
     match walked.end {
-        End::Found(_, _) => Err(Refusal::WrongKind),
-        End::Missing(_, _) => Err(Refusal::NotFound),
-        End::LastLink(spot, _) => {
+        End::Found { .. } => Err(Refusal::WrongKind),
+        End::Missing { .. } => Err(Refusal::NotFound),
+        End::LastLink { spot, .. } => {
             let target = store::contents(tree, spot);
             put_bytes(out, number, target)?;
             *links = walked.links as u64;

@@ -69,9 +69,9 @@ pub fn symlink_metadata_at(
 {
     let walked = no_follow(tree, work, len)?;
     let spot = match walked.end {
-        End::Missing(_, _) => return Err(Refusal::NotFound),
-        End::Found(spot, _) => spot,
-        End::LastLink(spot, _) => spot,
+        End::Missing { .. } => return Err(Refusal::NotFound),
+        End::Found { spot, .. } => spot,
+        End::LastLink { spot, .. } => spot,
     };
     show(tree, times, rows, spot)?;
     *links = walked.links as u64;

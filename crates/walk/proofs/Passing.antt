@@ -25,6 +25,7 @@ use Rattle.refusal.specs.Numbers.{number_of}
 use Rattle.ask_find.specs.declared.Spot.{Spot}
 use Rattle.store.specs.Shows.{Shows, Asked, Some}
 use Rattle.walk.specs.declared.End.{End}
+use Rattle.walk.specs.declared.link.Link.{Link}
 use Rattle.walk.specs.declared.Met.{Met}
 use Rattle.walk.specs.declared.Met.TheVariants.{Ends, MidLink}
 use Rattle.walk.specs.Meets.{Plain, PathIn, means, end_of, LinkAt, Meets}
@@ -81,12 +82,12 @@ module _ (st : Store) (s : State) (w : World) (h : ℕ) (text out : Bytes) (n k 
   pass-stopped : (r : Refusal) → Meets st s w h (take n out) (Err r) → (after : Bytes) → Walks st s w h text after (Err r)
   pass-stopped r m after = pass-refused st s w h text after r (λ ls. g.same ls ∙ by_walk w (40 - k) (names (take n out)) (ls ++ g.links) _ m.answer)
 
-  module _ (spot : Spot) (d e : ℕ) (m : Meets st s w h (take n out) (Ok (MidLink spot d e))) where
+  module _ (l : Link) (m : Meets st s w h (take n out) (Ok (MidLink l))) where
     abbrev here : Path
-    here = names (take e (take n out))
+    here = names (take l.rest (take n out))
 
     abbrev rest : List Name
-    rest = names (drop e (take n out))
+    rest = names (drop l.rest (take n out))
 
     goes : (ls : List Path) (j : ℕ) → 40 - k ≡ j → run (no_follow 40 (names text) ls) w ≡ run (along j (ls ++ g.links) here rest) w
     unfolding ended
@@ -98,16 +99,16 @@ module _ (st : Store) (s : State) (w : World) (h : ℕ) (text out : Bytes) (n k 
     pass-loop z after = pass-refused st s w h text after LinkLoop (λ ls. goes ls 0 (omega arith))
 
     module _ (low : k < 40) (after : Bytes) where
-      one : (r : Formed) → Follows w (take n out) e after r → (ls : List Path) (j : ℕ) → 40 - k ≡ suc j
+      one : (r : Formed) → Follows w (take n out) l.rest after r → (ls : List Path) (j : ℕ) → 40 - k ≡ suc j
           → run (no_follow 40 (names text) ls) w ≡ then (behind w after r) (λ q u. run (no_follow j q ((ls ++ g.links) ++ (here ∷ []))) u)
       one r f ls j z =
           goes ls (suc j) z ∙ run_bind (behind_link here rest) (λ q. no_follow j q ((ls ++ g.links) ++ (here ∷ []))) w
           ∙ ap (λ (o : Out Path). then o (λ q u. run (no_follow j q ((ls ++ g.links) ++ (here ∷ []))) u)) f.answer
 
-      pass-long : (x : TooLong) → Follows w (take n out) e after (Err x) → (out₂ : Bytes) → Walks st s w h text out₂ (Err PathTooLong)
+      pass-long : (x : TooLong) → Follows w (take n out) l.rest after (Err x) → (out₂ : Bytes) → Walks st s w h text out₂ (Err PathTooLong)
       pass-long x f out₂ = pass-refused st s w h text out₂ PathTooLong (λ ls. one (Err x) f ls (39 - k) (omega arith))
 
-      pass_on : (m₂ : ℕ) → Follows w (take n out) e after (Ok m₂) → Passed w text after m₂ (k + 1)
+      pass_on : (m₂ : ℕ) → Follows w (take n out) l.rest after (Ok m₂) → Passed w text after m₂ (k + 1)
       pass_on m₂ f = record {
         links = g.links ++ (here ∷ []);
         counted = length-append g.links (here ∷ []) ∙ omega (arith, g.counted);
@@ -155,28 +156,28 @@ module _ {has : Store → Store} {h : ℕ} {text first out : Bytes} {n k : ℕ} 
     go-ended e q st s y w a =
         pass-ended (has st) s w h text out n k (g.passed st s y w a) g.fits g.few g.plain e (subst (λ (x : Met). Meets (has st) s w h (take n out) (Ok x)) q (met st s y w a))
 
-    module _ (spot : Spot) (d e : ℕ) (q : m ≡ MidLink spot d e) where
-      mid : All has h (λ st s w. Meets st s w h (take n out) (Ok (MidLink spot d e)))
+    module _ (l : Link) (q : m ≡ MidLink l) where
+      mid : All has h (λ st s w. Meets st s w h (take n out) (Ok (MidLink l)))
       mid st s y w a = subst (λ (x : Met). Meets (has st) s w h (take n out) (Ok x)) q (met st s y w a)
 
-      pub go-link : All has h (λ st s w. LinkAt st s w (take n out) spot d e)
+      pub go-link : All has h (λ st s w. LinkAt st s w (take n out) l.spot l.dir l.rest)
       go-link st s y w a = (mid st s y w a).place
 
       pub go-loop : k ≡ 40 → (after : Bytes) → All has h (λ st s w. Walks st s w h text after (Err LinkLoop))
-      go-loop z after st s y w a = pass-loop (has st) s w h text out n k (g.passed st s y w a) spot d e (mid st s y w a) z after
+      go-loop z after st s y w a = pass-loop (has st) s w h text out n k (g.passed st s y w a) l (mid st s y w a) z after
 
       module _ (low : k < 40) (after : Bytes) where
-        pub go-long : (x : TooLong) → Following has (take n out) spot d e after (Err x) → (out₂ : Bytes) → All has h (λ st s w. Walks st s w h text out₂ (Err PathTooLong))
+        pub go-long : (x : TooLong) → Following has (take n out) l.spot l.dir l.rest after (Err x) → (out₂ : Bytes) → All has h (λ st s w. Walks st s w h text out₂ (Err PathTooLong))
         go-long x f out₂ st s y w a =
-            pass-long (has st) s w h text out n k (g.passed st s y w a) spot d e (mid st s y w a) low after x (f st s y h w a (go-link st s y w a)) out₂
+            pass-long (has st) s w h text out n k (g.passed st s y w a) l (mid st s y w a) low after x (f st s y h w a (go-link st s y w a)) out₂
 
-        pub go_on : Some has → (m₂ : ℕ) → Following has (take n out) spot d e after (Ok m₂) → length after ≡ length first → Going has h text first after m₂ (k + 1)
+        pub go_on : Some has → (m₂ : ℕ) → Following has (take n out) l.spot l.dir l.rest after (Ok m₂) → length after ≡ length first → Going has h text first after m₂ (k + 1)
         go_on some m₂ f long =
-            let p = kept_in_lem has h (take n out) spot d e after (Ok m₂) some go-link f in
+            let p = kept_in_lem has h (take n out) l.spot l.dir l.rest after (Ok m₂) some go-link f in
             record {
               fits = p.0;
               long = long;
               plain = p.1;
               few = omega arith;
-              passed = λ st s y w a. pass_on (has st) s w h text out n k (g.passed st s y w a) spot d e (mid st s y w a) low after m₂ (f st s y h w a (go-link st s y w a));
+              passed = λ st s y w a. pass_on (has st) s w h text out n k (g.passed st s y w a) l (mid st s y w a) low after m₂ (f st s y h w a (go-link st s y w a));
             }

@@ -151,7 +151,7 @@ module _ {st : Store} {s : State} {w : World} {text : Bytes} where
           let f = first-name r.rest refl in
           record { answer = r.same ∙ ap (λ (x : List Name). run (until_symlink r.here x) w) f.2 ∙ until-file w r.here f.0 f.1 k; place = tt }
 
-      pub at-link : {h : ℕ} → kind ≡ some a_link → Meets st s w h text (Ok (MidLink spot u e))
+      pub at-link : {h : ℕ} → kind ≡ some a_link → Meets st s w h text (Ok (MidLink (record { spot = spot; dir = u; rest = e })))
       at-link k =
           let f = first-name r.rest refl in
           record {

@@ -44,7 +44,7 @@ end_of text (LastLink spot d) = last_link (names text)
 -- what each place stands for that the walk came to
 abbrev pub met_of : Bytes → Met → model.Met
 met_of text (Ends e) = ends (end_of text e)
-met_of text (MidLink spot d e) = mid_link (names (take e text)) (names (drop e text))
+met_of text (MidLink l) = mid_link (names (take l.rest text)) (names (drop l.rest text))
 
 -- the run of the model that each answer stands for
 abbrev pub means : World → Bytes → Result Met Refusal → Out model.Met
@@ -75,7 +75,7 @@ EndPlaced st s w h text (LastLink spot d) = LinkAt st s w text spot d (length te
 -- what the numbers of an answer are
 abbrev pub Placed : Store → State → World → ℕ → Bytes → Result Met Refusal → Type 0
 Placed st s w h text (Ok (Ends e)) = EndPlaced st s w h text e
-Placed st s w h text (Ok (MidLink spot d e)) = LinkAt st s w text spot d e
+Placed st s w h text (Ok (MidLink l)) = LinkAt st s w text l.spot l.dir l.rest
 Placed st s w h text (Err r) = Unit {0}
 
 -- the walk of the path in the text, in a world that a store shows

@@ -29,11 +29,11 @@ pub struct Search<'a> {
 #[derive(Clone, Copy)]
 pub enum End {
     // An entry that is no link: a directory or a file.
-    Found(Spot, Kind),
+    Found { spot: Spot, kind: Kind },
     // No entry: the place of the first missing name, and where in the text the path of its directory ends.
-    Missing(Gap, usize),
+    Missing { gap: Gap, upto: usize },
     // A link at the end, and where the path of its directory ends.
-    LastLink(Spot, usize),
+    LastLink { spot: Spot, dir: usize },
 }
 
 // Where a walk from the root came to.
@@ -41,8 +41,8 @@ pub enum End {
 #[derive(Clone, Copy)]
 pub enum Met {
     Ends(End),
-    // A link before the last name: where the path of its directory ends, and where its own does.
-    MidLink(Spot, usize, usize),
+    // A link before the last name.
+    MidLink(link::Link),
 }
 
 // An entry to which a path led, with the length of that path, which now stands in front of the buffer, and how many links were followed.

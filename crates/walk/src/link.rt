@@ -8,20 +8,21 @@ use layout::slices::Tree;
 use path::answer::TooLong;
 use path_form::link::follow;
 
-// The path behind the link at the spot, to which out[..rest] leads and its directory's path out[..dir], takes the place of out[..len]:
-// the target seen from there, and then the rest.
+// A link on the way: where in the text the path of its directory ends, and where its own does.
+#[derive(Clone, Copy)]
+pub struct Link {
+    pub spot: Spot,
+    pub dir: usize,
+    pub rest: usize,
+}
+
+// The path behind the link, to which the path in out[..len] leads on its way, takes the place of that path: the target seen from the link's
+// directory, and then the rest.
 // kept: the buffer is lent by the caller, so the length of the path in front of it goes beside it.
-pub fn behind_link(
-    tree: Tree,
-    out: &mut [u8],
-    len: usize,
-    spot: Spot,
-    dir: usize,
-    rest: usize,
-) -> Result<usize, TooLong>
-    requires { SomeLink (with_tree tree) (take len out.old) spot dir rest × (len ≤ 1024) × (1024 ≤ length out.old) }
-    ensures { FollowsIn (still (with_tree tree.entry)) (take len out.old) spot dir rest out.new result }
+pub fn behind_link(tree: Tree, out: &mut [u8], len: usize, link: Link) -> Result<usize, TooLong>
+    requires { SomeLink (with_tree tree) (take len out.old) link.spot link.dir link.rest × (len ≤ 1024) × (1024 ≤ length out.old) }
+    ensures { FollowsIn (still (with_tree tree.entry)) (take len out.old) link.spot link.dir link.rest out.new result }
 {
-    let target = store::contents(tree, spot);
-    follow(out, dir, rest, len, target)
+    let target = store::contents(tree, link.spot);
+    follow(out, link.dir, link.rest, len, target)
 }

@@ -6,7 +6,7 @@ ghost use Rattle.store.specs.Shows.{Some};
 ghost use Rattle.walk.specs.Meets.{PathIn};
 ghost use Rattle.walk.specs.Lookups.{WalksIn, LooksIn};
 
-use crate::link::behind_link;
+use crate::link::{Link, behind_link};
 use crate::until::lookup_entry_detail_until_symlink;
 use crate::{End, Met, Search, There};
 use ask_find::Gap;
@@ -83,11 +83,11 @@ pub fn lookup_entry_detail_no_follow(
         let links = walk.count;
         match lookup_entry_detail_until_symlink(tree, &out[..n], hidden)? {
             Met::Ends(end) => return Ok(Walked { end, len: n, links }),
-            Met::MidLink(spot, dir, rest) => {
+            Met::MidLink(link) => {
                 if links == Walk::MOST {
                     return Err(Refusal::LinkLoop);
                 }
-                n = behind_link(tree, out, n, spot, dir, rest)?;
+                n = behind_link(tree, out, n, link)?;
                 walk = walk.next();
             }
         }
@@ -110,7 +110,7 @@ pub fn lookup_entry_detail(scope: Search, out: &mut [u8], len: usize) -> Result<
         let len = w.len;
         links += w.links;
         match w.end {
-            End::Found(spot, kind) => {
+            End::Found { spot, kind } => {
                 let there = There {
                     spot,
                     kind,
@@ -119,7 +119,7 @@ pub fn lookup_entry_detail(scope: Search, out: &mut [u8], len: usize) -> Result<
                 };
                 return Ok(Looked::Found(there));
             }
-            End::Missing(gap, upto) => {
+            End::Missing { gap, upto } => {
                 let absent = Absent {
                     gap,
                     upto,
@@ -128,11 +128,16 @@ pub fn lookup_entry_detail(scope: Search, out: &mut [u8], len: usize) -> Result<
                 };
                 return Ok(Looked::Missing(absent));
             }
-            End::LastLink(spot, dir) => {
+            End::LastLink { spot, dir } => {
                 if left == 0 {
                     return Err(Refusal::LinkLoop);
                 }
-                n = behind_link(scope.tree, out, len, spot, dir, len)?;
+                let link = Link {
+                    spot,
+                    dir,
+                    rest: len,
+                };
+                n = behind_link(scope.tree, out, len, link)?;
                 left -= 1;
                 links += 1;
             }

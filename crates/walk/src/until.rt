@@ -5,6 +5,7 @@ ghost use Rattle.ask_find.specs.Spots.{hidden_at};
 ghost use Rattle.store.specs.Shows.{Some};
 ghost use Rattle.walk.specs.Meets.{Plain, MeetsIn};
 
+use crate::link::Link;
 use crate::{End, Met};
 use layout::kind::Kind;
 use layout::slices::Tree;
@@ -23,7 +24,7 @@ pub fn lookup_entry_detail_until_symlink(
 {
     let mut spot = match store::root(tree.words) {
         Ok(s) => s,
-        Err(g) => return Ok(Met::Ends(End::Missing(g, 0))),
+        Err(gap) => return Ok(Met::Ends(End::Missing { gap, upto: 0 })),
     };
     let mut dir = 0;
     let mut e = 0;
@@ -31,7 +32,7 @@ pub fn lookup_entry_detail_until_symlink(
         match store::kind(tree.words, tree.records, tree.heads, spot) {
             Kind::Directory => {}
             Kind::File => return Err(Refusal::NotDirectory),
-            Kind::Link => return Ok(Met::MidLink(spot, dir, e)),
+            Kind::Link => return Ok(Met::MidLink(Link { spot, dir, rest: e })),
         }
         let a = e + 1;
         let b = piece_end(path, a);
@@ -44,13 +45,13 @@ pub fn lookup_entry_detail_until_symlink(
             hidden,
         ) {
             Ok(s) => s,
-            Err(g) => return Ok(Met::Ends(End::Missing(g, e))),
+            Err(gap) => return Ok(Met::Ends(End::Missing { gap, upto: e })),
         };
         dir = e;
         e = b;
     }
     match store::kind(tree.words, tree.records, tree.heads, spot) {
-        Kind::Link => Ok(Met::Ends(End::LastLink(spot, dir))),
-        kind => Ok(Met::Ends(End::Found(spot, kind))),
+        Kind::Link => Ok(Met::Ends(End::LastLink { spot, dir })),
+        kind => Ok(Met::Ends(End::Found { spot, kind })),
     }
 }

@@ -18,12 +18,12 @@ returns-in-Missing c = λ st s h. does-refused _ s _ h _ _ (symlink-missing (c.i
 
 -- the spot is that of the entry or of the link
 at : (c : After-show) → AtEnd c.in_ok-walked.walked.end c.match-walked.spot
-at c = elim c.match-walked.branch [ in-Found w ↦ an_entry w.in-Found.field-1 (cc) | in-LastLink w ↦ a_last_link w.in-LastLink.field-1 (cc) ]
+at c = elim c.match-walked.branch [ in-Found w ↦ an_entry w.in-Found.kind (cc) | in-LastLink w ↦ a_last_link w.in-LastLink.dir (cc) ]
 
 pub show-requires : goal.show-requires
 show-requires c =
     let p = c.requires.0 in let a = c.args in
-    (p.0, p.1, _, p.2, end_stands (c.in_ok-walked.ensures (with_times a.times.now p.0) p.1 p.2) (elim c.match-walked.branch [ in-Found w ↦ an_entry w.in-Found.field-1 (cc) | in-LastLink w ↦ a_last_link w.in-LastLink.field-1 (cc) ]))
+    (p.0, p.1, _, p.2, end_stands (c.in_ok-walked.ensures (with_times a.times.now p.0) p.1 p.2) (elim c.match-walked.branch [ in-Found w ↦ an_entry w.in-Found.kind (cc) | in-LastLink w ↦ a_last_link w.in-LastLink.dir (cc) ]))
 
 pub returns-in_err-show : goal.returns-in_err-show
 returns-in_err-show c =

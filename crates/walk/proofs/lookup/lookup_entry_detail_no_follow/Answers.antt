@@ -23,12 +23,12 @@ pub returns-in-Ends : goal.returns-in-Ends
 returns-in-Ends c = go-ended c.loop-end.invariant _ c.in_ok-end.ensures _ c.in-Ends.is
 
 pub returns-then-links-eq-MOST : goal.returns-then-links-eq-MOST
-returns-then-links-eq-MOST c = go-loop c.loop-end.invariant _ c.in_ok-end.ensures _ _ _ c.in-MidLink.is c.if-links-eq-MOST.true _
+returns-then-links-eq-MOST c = go-loop c.loop-end.invariant _ c.in_ok-end.ensures _ c.in-MidLink.is c.if-links-eq-MOST.true _
 
 pub behind_link-requires : goal.behind_link-requires
 behind_link-requires c =
     let l = c.loop-end.invariant in (
-      some_link (with_tree c.args.tree) (hidden_at c.args.hidden) _ _ _ _ c.requires.0 (go-link l _ c.in_ok-end.ensures _ _ _ c.in-MidLink.is),
+      some_link (with_tree c.args.tree) (hidden_at c.args.hidden) _ _ _ _ c.requires.0 (go-link l _ c.in_ok-end.ensures _ c.in-MidLink.is),
       l.fits,
       omega (arith, l.long, c.requires.1.room),
     )
@@ -39,10 +39,10 @@ returns-in_err-n-in-MidLink c =
     let r = c.from_residual-in_err-n-in-MidLink in
     let p = err_from_is_err_and r.result r.ensures.1 in
     rw (p.1, p.2)
-    (go-long c.loop-end.invariant _ c.in_ok-end.ensures _ _ _ c.in-MidLink.is (below (goal.at.returns-in_err-n-in-MidLink c).Else-links-eq-MOST) _ _ c.in_err-n-in-MidLink.ensures _ st s y w a)
+    (go-long c.loop-end.invariant _ c.in_ok-end.ensures _ c.in-MidLink.is (below (goal.at.returns-in_err-n-in-MidLink c).Else-links-eq-MOST) _ _ c.in_err-n-in-MidLink.ensures _ st s y w a)
 
 pub loop-end-preserved : goal.loop-end-preserved
 loop-end-preserved c =
     rw c.next-walk.ensures
-    (go_on c.loop-end.invariant _ c.in_ok-end.ensures _ _ _ c.in-MidLink.is (below (goal.at.loop-end-preserved c).Else-links-eq-MOST) _ c.requires.0 _ c.in_ok-n-in-MidLink.ensures
+    (go_on c.loop-end.invariant _ c.in_ok-end.ensures _ c.in-MidLink.is (below (goal.at.loop-end-preserved c).Else-links-eq-MOST) _ c.requires.0 _ c.in_ok-n-in-MidLink.ensures
     (omega (arith, c.loop-end.invariant.long)))
