@@ -1,7 +1,7 @@
 #![tactic(auto)]
 // Only for timing: an edit made many times in one store, for a C program. The store is tested once, since each edit leaves a store
 // that obeys the rules.
-// kept: each exported function has the six slices one by one, as C calls it.
+// kept: each exported function has the six slices one by one, as C calls it; n is how many times an edit is made, and no length.
 use edit_entry::lent::Entries;
 use edit_entry::made::{Fresh, Made};
 use layout::EXTENT_AT;
@@ -78,7 +78,7 @@ pub extern "C" fn timed_insert(
     names.len() / 10
 }
 
-// The entry that stands at record i, so many times, up to one that is refused; how many were removed.
+// The entry that stands at record i, n times, up to one that is refused; how many were removed.
 #[unsafe(no_mangle)]
 pub extern "C" fn timed_remove(
     words: &mut [u64],
@@ -88,20 +88,20 @@ pub extern "C" fn timed_remove(
     paths: &[u8],
     bytes: &mut [u8],
     i: usize,
-    turns: usize,
+    n: usize,
 ) -> usize {
     if !ready(words, records, heads, times, paths, bytes) {
         return 0;
     }
-    for k in 0..turns {
+    for k in 0..n {
         if !remove_in(words, records, heads, times, paths, bytes, i) {
             return k;
         }
     }
-    turns
+    n
 }
 
-// The contents of the file at record i, a and then b, so many times, up to a refusal; how many times both were stored.
+// The contents of the file at record i, a and then b, n times, up to a refusal; how many times both were stored.
 #[unsafe(no_mangle)]
 pub extern "C" fn timed_contents(
     words: &[u64],
@@ -113,12 +113,12 @@ pub extern "C" fn timed_contents(
     i: usize,
     a: &[u8],
     b: &[u8],
-    turns: usize,
+    n: usize,
 ) -> usize {
     if !ready(words, records, heads, times, paths, bytes) {
         return 0;
     }
-    for k in 0..turns {
+    for k in 0..n {
         if !contents_in(words, records, heads, times, paths, bytes, i, a, 1) {
             return k;
         }
@@ -126,5 +126,5 @@ pub extern "C" fn timed_contents(
             return k;
         }
     }
-    turns
+    n
 }
