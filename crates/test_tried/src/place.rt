@@ -1,6 +1,7 @@
 // What an insertion asks.
 ghost use Rattle.std.specs.Prelude.{IfSome, true, ◌≡◌, ◌<◌, ◌≤◌, T, length};
 ghost use Rattle.model.specs.Rules.{name_ok};
+ghost use Rattle.layout.specs.Numbers.{most_entries};
 ghost use Rattle.layout.specs.Store.{count, kind_at, state};
 ghost use Rattle.layout.specs.Lent.{lent_by};
 ghost use Rattle.layout.specs.Lawful.{Lawful};
@@ -41,12 +42,12 @@ pub fn is_dir(lent: Slices, i: usize) -> bool
 // The entry `name` of the directory at record dir, or where it would stand.
 pub(crate) fn look(lent: Slices, dir: usize, name: &[u8]) -> Result<Spot, Gap>
     requires { Lawful (lent_by lent) × (dir < count (lent_by lent)) × (kind_at (lent_by lent) (slot_at (lent_by lent) dir) ≡ 1) }
-    ensures { let st = lent_by lent.entry in Looks st (count st) (state st).tree (path_at st dir) name.now result }
+    ensures { let st = lent_by lent.entry in Looks st most_entries (state st).tree (path_at st dir) name.now result }
 {
     let count = lent.words[COUNT_AT] as usize;
     let off = names_of(&lent.records[..dir]);
     let at = Spot { at: dir, off };
-    ask_find::child(&lent.records[..count], lent.bytes, at, name, count)
+    ask_find::child(&lent.records[..count], lent.bytes, at, name, None)
 }
 
 // Where the entry `name` of the directory at record dir would stand, if there is none.
