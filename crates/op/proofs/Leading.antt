@@ -26,8 +26,7 @@ use Rattle.layout.specs.Store.{Store}
 use Rattle.layout.specs.Numbers.{most_entries}
 use Rattle.store.specs.Shows.{Shows, Stands, Asked, whole, says}
 use Rattle.walk.specs.declared.There as led
-use Rattle.walk.specs.declared.lookup.Looked.{Looked}
-use Rattle.walk.specs.Lookups.{Looks}
+use Rattle.walk.specs.Lookups.{Looked, Looks}
 use Rattle.walk.specs.Meets.{Plain}
 use Rattle.walk.specs.Leads.{Leads}
 use Rattle.op.specs.Testing.{AbsoluteIs}

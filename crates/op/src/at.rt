@@ -13,7 +13,7 @@ ghost use Rattle.walk.specs.Meets.{PathIn};
 
 use layout::slices::Tree;
 use refusal::Refusal;
-use walk::lookup::{Looked, Walked};
+use walk::lookup::{Absent, Walked};
 use walk::{Search, There};
 
 // What they look in.
@@ -42,7 +42,7 @@ pub fn leads(tree: Tree, work: &mut [u8], len: usize) -> Result<There, Refusal>
 
 // What the path comes to, there or not.
 // kept: the buffer is lent by the caller, so the length of the path in front of it goes beside it.
-pub fn lookup(tree: Tree, work: &mut [u8], len: usize) -> Result<Looked, Refusal>
+pub fn lookup(tree: Tree, work: &mut [u8], len: usize) -> Result<Result<There, Absent>, Refusal>
     requires { Some (with_tree tree) × PathIn work.old len }
     ensures { Of (still (with_tree tree.entry))
         (λ st s. Looks st s (world_of s) most_entries (links_in s.tree) (take len work.old) work.new result) }

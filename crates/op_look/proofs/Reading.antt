@@ -34,10 +34,8 @@ use Rattle.ask_entry.specs.Reads.{Contents}
 use Rattle.store.specs.Shows.{Shows}
 use Rattle.walk.specs.declared.There as led
 use Rattle.walk.specs.declared.lookup.Absent.{Absent}
-use Rattle.walk.specs.declared.lookup.Looked.{Looked}
-use Rattle.walk.specs.declared.lookup.Looked.TheVariants as looked
 use Rattle.walk.specs.Meets.{Plain}
-use Rattle.walk.specs.Lookups.{reaches, Looks}
+use Rattle.walk.specs.Lookups.{reaches, Looked, Looks}
 use Rattle.walk.specs.Leads.{Leads}
 use Rattle.op.specs.Lending.{in_bytes, PutIs, put, short}
 use Rattle.op.specs.Doing.{Does}
@@ -200,7 +198,7 @@ module _ (lent : ℕ) where
   read-refused l = by_end l
 
   -- what is not there
-  module _ {st : Store} {s : State} {hide b : ℕ} {text out : Bytes} {a : Absent} (l : Looks st s (world_of s) hide b text out (Ok (looked.Missing a))) where
+  module _ {st : Store} {s : State} {hide b : ℕ} {text out : Bytes} {a : Absent} (l : Looks st s (world_of s) hide b text out (Ok (Err a))) where
     pub read-no-name : a.len ≡ 0 → run (read_at b lent (names text)) (world_of s) ≡ refused 5
     read-no-name z = by_end l ∙ at-root (world_of s) l.links none _ (front-root out a.len l.place.0.plain z)
 
@@ -209,7 +207,7 @@ module _ (lent : ℕ) where
     read-missing z m = by_end l ∙ at_name (world_of s) l.links none _ (front-named out a.len l.place.0.plain z (omega (arith, l.place.0.fits, m)))
 
   -- what is
-  module _ {st : Store} {s : State} {hide b : ℕ} {text out : Bytes} {t : led.There} (l : Looks st s (world_of s) hide b text out (Ok (looked.Found t))) where
+  module _ {st : Store} {s : State} {hide b : ℕ} {text out : Bytes} {t : led.There} (l : Looks st s (world_of s) hide b text out (Ok (Ok t))) where
     pub read-root : t.len ≡ 0 → run (read_at b lent (names text)) (world_of s) ≡ refused 5
     read-root z = by_end l ∙ at-root (world_of s) l.links _ _ (front-root out t.len l.place.0.plain z)
 

@@ -18,7 +18,6 @@ use op::answer::put_bytes;
 use op::at::{leads, lookup, no_follow};
 use refusal::Refusal;
 use walk::End;
-use walk::lookup::Looked;
 
 // The target of the link at the path in work[..len], as it was given.
 // kept: the buffer is lent by the caller, so the length of the path in front of it goes beside it.
@@ -63,14 +62,14 @@ pub fn read_at(
 {
     let looked = lookup(tree, work, len)?;
     let there = match looked {
-        Looked::Missing(absent) => {
+        Err(absent) => {
             return Err(if absent.len == 0 {
                 Refusal::NoLastName
             } else {
                 Refusal::NotFound
             });
         }
-        Looked::Found(there) => there,
+        Ok(there) => there,
     };
     if there.len == 0 {
         return Err(Refusal::NoLastName);

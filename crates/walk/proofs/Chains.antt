@@ -30,7 +30,6 @@ use Rattle.store.specs.Shows.{Some}
 use Rattle.walk.specs.declared.End.{End}
 use Rattle.walk.specs.declared.End.TheVariants.{Found, Missing, LastLink}
 use Rattle.walk.specs.declared.lookup.Walked.{Walked}
-use Rattle.walk.specs.declared.lookup.Looked.TheVariants as looked
 use Rattle.walk.specs.Meets.{Plain, PathIn, LinkAt, end_of, EndPlaced}
 use Rattle.walk.specs.Lookups.{behind, Follows, Walks, InFront, Looks}
 use Rattle.walk.proofs.Passing.{All, Following, kept_in_lem}
@@ -90,11 +89,11 @@ module _ (st : Store) (s : State) (w : World) (h bound : ℕ) (text out : Bytes)
     placed : (e : End) → r.end ≡ e → EndPlaced st s w h here e
     placed e z = subst (EndPlaced st s w h here) z y.place.2
 
-    linked-found : (spot : Spot) (k : Kind) → r.end ≡ Found spot k → Looks st s w h bound text after (Ok (looked.Found (record { spot = spot; kind = k; len = r.len; links = total + r.links })))
+    linked-found : (spot : Spot) (k : Kind) → r.end ≡ Found spot k → Looks st s w h bound text after (Ok (Ok (record { spot = spot; kind = k; len = r.len; links = total + r.links })))
     unfolding reached run
     linked-found spot k z = let q = placed (Found spot k) z in record { links = both; answer = goes (Found spot k) z; place = (in-front, q.0, q.1) }
 
-    linked-missing : (gap : Gap) (e : ℕ) → r.end ≡ Missing gap e → Looks st s w h bound text after (Ok (looked.Missing (record { gap = gap; upto = e; len = r.len; links = total + r.links })))
+    linked-missing : (gap : Gap) (e : ℕ) → r.end ≡ Missing gap e → Looks st s w h bound text after (Ok (Err (record { gap = gap; upto = e; len = r.len; links = total + r.links })))
     unfolding reached run
     linked-missing gap e z = record { links = both; answer = goes (Missing gap e) z; place = (in-front, placed (Missing gap e) z) }
 
@@ -161,11 +160,11 @@ module _ {has : Store → Store} {h bound : ℕ} {text first out : Bytes} {left 
   chain-stopped r walks st s y w a = linked-stopped (has st) s w h bound text out left n total (g.linked st s y w a) after r (walks st s y w a)
 
   module _ (r : Walked) (walks : All has h (λ st s w. Walks st s w h (take n out) after (Ok r))) where
-    pub chain-found : (spot : Spot) (k : Kind) → r.end ≡ Found spot k → All has h (λ st s w. Looks st s w h bound text after (Ok (looked.Found (record { spot = spot; kind = k; len = r.len; links = total + r.links }))))
+    pub chain-found : (spot : Spot) (k : Kind) → r.end ≡ Found spot k → All has h (λ st s w. Looks st s w h bound text after (Ok (Ok (record { spot = spot; kind = k; len = r.len; links = total + r.links }))))
     chain-found spot k e st s y w a = linked-found (has st) s w h bound text out left n total (g.linked st s y w a) after r (walks st s y w a) spot k e
 
     pub chain-missing : (gap : Gap) (u : ℕ) → r.end ≡ Missing gap u
-        → All has h (λ st s w. Looks st s w h bound text after (Ok (looked.Missing (record { gap = gap; upto = u; len = r.len; links = total + r.links }))))
+        → All has h (λ st s w. Looks st s w h bound text after (Ok (Err (record { gap = gap; upto = u; len = r.len; links = total + r.links }))))
     chain-missing gap u e st s y w a = linked-missing (has st) s w h bound text out left n total (g.linked st s y w a) after r (walks st s y w a) gap u e
 
     module _ (spot : Spot) (d : ℕ) (e : r.end ≡ LastLink spot d) where

@@ -3,10 +3,11 @@
 -- Assumes nothing.
 use mathlib.Core.List.{[], ◌∷◌, ◌++◌, drop_last}
 use mathlib.Core.Option.{Option, some}
-use mathlib.Core.Path.{◌≡◌, refl, sym, ap, ◌∙◌, subst}
+use mathlib.Core.Path.{◌≡◌, refl, sym, ap, ◌∙◌}
 use Prim.Native.Nat.{ℕ}
 use lib.ListN.{take}
 use Rattle.std.specs.Prelude.{Ok, Err}
+use Rattle.std.specs.Result.{result_or}
 use Rattle.text.specs.Utf8.{Bytes}
 use Rattle.path.specs.Path.{Name, names, last_name}
 use Rattle.path.proofs.Reading.{drop_last-snoc}
@@ -28,11 +29,7 @@ use Rattle.refusal.specs.declared.Refusal.{Refusal}
 use Rattle.refusal.specs.declared.Refusal.TheVariants.{NotFound, NotDirectory}
 use Rattle.store.specs.Shows.{says, Stands, There, LookIs}
 use Rattle.walk.specs.declared.There as led
-use Rattle.walk.specs.declared.leads.Last.TheVariants as last
-use Rattle.walk.specs.declared.lookup.Absent.{Absent}
-use Rattle.walk.specs.declared.lookup.Looked.{Looked}
-use Rattle.walk.specs.declared.lookup.Looked.TheVariants as looked
-use Rattle.walk.specs.Lookups.{Looks}
+use Rattle.walk.specs.Lookups.{Looked, Looks}
 use Rattle.walk.specs.Leads.{Leads, DirInFront, LastIs}
 
 -- ---- an entry that is there
@@ -46,17 +43,10 @@ unfolding leads there
 leads-run w b p o e = run_bind (lookup b p) there w ∙ ap (λ (x : Out Where). then x (λ a u. run (there a) u)) e
 
 module _ {st : Store} {s : State} {w : World} {h b : ℕ} {text out : Bytes} where
-  pub leads-found : (r : Looked) (t : led.There) → r ≡ looked.Found t → Looks st s w h b text out (Ok r) → Leads (leads b) st s w text out (Ok t)
+  pub leads-looked : (r : Looked) → Looks st s w h b text out (Ok r) → Leads (leads b) st s w text out (result_or r (Err NotFound))
   unfolding there must run ◌>>=◌
-  leads-found r t e x =
-      let y = subst (λ (z : Looked). Looks st s w h b text out (Ok z)) e x in
-      record { links = y.links; answer = leads-run w b (names text) _ (y.answer []); place = y.place }
-
-  pub leads-missing : (r : Looked) (a : Absent) → r ≡ looked.Missing a → Looks st s w h b text out (Ok r) → Leads (leads b) st s w text out (Err NotFound)
-  unfolding there must run ◌>>=◌
-  leads-missing r a e x =
-      let y = subst (λ (z : Looked). Looks st s w h b text out (Ok z)) e x in
-      record { links = []; answer = leads-run w b (names text) _ (y.answer []); place = tt }
+  leads-looked (Ok t) y = record { links = y.links; answer = leads-run w b (names text) _ (y.answer []); place = y.place }
+  leads-looked (Err a) y = record { links = []; answer = leads-run w b (names text) _ (y.answer []); place = tt }
 
   pub leads-refused : (r : Refusal) → Looks st s w h b text out (Err r) → Leads (leads b) st s w text out (Err r)
   unfolding there must run ◌>>=◌
@@ -152,10 +142,10 @@ module _ {st : Store} {s : State} {w : World} (h b : ℕ) {text : Bytes} (x : Na
   in-front = record { front = y.place.0; dir = dir-kind }
 
   pub last_found : (at : Spot) (k : own.Kind) → LookIs st s w h dir-path x (Ok at) → (There st s w (dir-path ++ (x ∷ [])) at → says (kind? (dir-path ++ (x ∷ []))) s ≡ some (kind_from k))
-      → LastIs st s w h b text x out (Ok (last.Found (record { spot = at; kind = k; len = d.len; links = d.links })))
+      → LastIs st s w h b text x out (Ok (Ok (record { spot = at; kind = k; len = d.len; links = d.links })))
   last_found at k t z = let m = t.kind ∙ z t in record { links = y.links; answer = last_answer _ m; place = (in-front, t, m) }
 
-  pub last_missing : (gap : Gap) → LookIs st s w h dir-path x (Err gap) → LastIs st s w h b text x out (Ok (last.Missing gap d.len d.links))
+  pub last_missing : (gap : Gap) → LookIs st s w h dir-path x (Err gap) → LastIs st s w h b text x out (Ok (Err (record { gap = gap; len = d.len; links = d.links })))
   last_missing gap t = record { links = y.links; answer = last_answer _ t.0; place = (in-front, t.0, t.1) }
 
 pub last_refused : {st : Store} {s : State} {w : World} {h : ℕ} (b : ℕ) {text : Bytes} (x : Name) {out : Bytes} (r : Refusal)

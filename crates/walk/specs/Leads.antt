@@ -18,8 +18,7 @@ use Rattle.refusal.specs.Numbers.{number_of}
 use Rattle.ask_find.specs.Spots.{Vacant}
 use Rattle.store.specs.Shows.{Asked, There, Of}
 use Rattle.walk.specs.declared.There as led
-use Rattle.walk.specs.declared.leads.Last.{Last}
-use Rattle.walk.specs.declared.leads.Last.TheVariants.{Found, Missing}
+use Rattle.walk.specs.declared.leads.Unmade.{Unmade}
 use Rattle.walk.specs.Lookups.{InFront, EntryPlaced}
 
 -- the run that each answer stands for
@@ -44,10 +43,14 @@ LeadsIn l step text h out r = Of l (λ st s. (w : World) → Asked st s h w → 
 
 -- ---- the entry of a last name
 
+-- an entry that is there, or the place of one that is not
+abbrev pub Last : Type 0
+Last = Result led.There Unmade
+
 -- the run that each answer stands for, where the last name is x
 abbrev pub last_at : World → List Path → Bytes → Name → Result Last Refusal → Out Where
-last_at w ls out x (Ok (Found t)) = done (record { path = names (take t.len out) ++ (x ∷ []); kind = some (kind_from t.kind); links = ls }) w
-last_at w ls out x (Ok (Missing gap n c)) = done (record { path = names (take n out) ++ (x ∷ []); kind = none; links = ls }) w
+last_at w ls out x (Ok (Ok t)) = done (record { path = names (take t.len out) ++ (x ∷ []); kind = some (kind_from t.kind); links = ls }) w
+last_at w ls out x (Ok (Err a)) = done (record { path = names (take a.len out) ++ (x ∷ []); kind = none; links = ls }) w
 last_at w ls out x (Err r) = refused (number_of r)
 
 -- the front of the buffer is the path of a directory
@@ -57,11 +60,11 @@ pub record DirInFront (w : World) (ls : List Path) (out : Bytes) (n c : ℕ) : T
 
 -- what the numbers of an answer are
 abbrev pub LastPlaced : Store → State → World → ℕ → List Path → Bytes → Name → Result Last Refusal → Type 0
-LastPlaced st s w h ls out x (Ok (Found t)) =
+LastPlaced st s w h ls out x (Ok (Ok t)) =
     DirInFront w ls out t.len t.links × There st s w (names (take t.len out) ++ (x ∷ [])) t.spot
     × (answer (kind? (names (take t.len out) ++ (x ∷ []))) w ≡ some (kind_from t.kind))
-LastPlaced st s w h ls out x (Ok (Missing gap n c)) =
-    DirInFront w ls out n c × (answer (kind? (names (take n out) ++ (x ∷ []))) w ≡ none) × Vacant (trim st) h (names (take n out)) x gap
+LastPlaced st s w h ls out x (Ok (Err a)) =
+    DirInFront w ls out a.len a.links × (answer (kind? (names (take a.len out) ++ (x ∷ []))) w ≡ none) × Vacant (trim st) h (names (take a.len out)) x a.gap
 LastPlaced st s w h ls out x (Err r) = Unit {0}
 
 -- the entry x of the directory to which the path in the text leads

@@ -21,8 +21,7 @@ use Rattle.ask_find.specs.declared.Spot.{Spot}
 use Rattle.store.specs.Shows.{Shows, Asked, There, Of}
 use Rattle.walk.specs.declared.There as led
 use Rattle.walk.specs.declared.lookup.Walked.{Walked}
-use Rattle.walk.specs.declared.lookup.Looked.{Looked}
-use Rattle.walk.specs.declared.lookup.Looked.TheVariants.{Found, Missing}
+use Rattle.walk.specs.declared.lookup.Absent.{Absent}
 use Rattle.walk.specs.Meets.{Plain, LinkAt, FirstMissing, end_of, EndPlaced}
 
 -- ---- behind a link
@@ -80,10 +79,14 @@ WalksIn l text h out r = Of l (λ st s. (w : World) → Asked st s h w → Walks
 
 -- ---- all links
 
+-- an entry that is there, or one that is not
+abbrev pub Looked : Type 0
+Looked = Result led.There Absent
+
 -- the run that each answer stands for
 abbrev pub reaches : World → List Path → Bytes → Result Looked Refusal → Out model.Where
-reaches w ls out (Ok (Found t)) = done (record { path = names (take t.len out); kind = some (kind_from t.kind); links = ls }) w
-reaches w ls out (Ok (Missing a)) = done (record { path = names (take a.len out); kind = none; links = ls }) w
+reaches w ls out (Ok (Ok t)) = done (record { path = names (take t.len out); kind = some (kind_from t.kind); links = ls }) w
+reaches w ls out (Ok (Err a)) = done (record { path = names (take a.len out); kind = none; links = ls }) w
 reaches w ls out (Err r) = refused (number_of r)
 
 -- the path in front of the buffer is that of an entry, and its spot and its kind are told
@@ -93,8 +96,8 @@ EntryPlaced st s w ls out t =
 
 -- what the numbers of an answer are
 abbrev pub LookPlaced : Store → State → World → ℕ → List Path → Bytes → Result Looked Refusal → Type 0
-LookPlaced st s w h ls out (Ok (Found t)) = EntryPlaced st s w ls out t
-LookPlaced st s w h ls out (Ok (Missing a)) = InFront ls out a.len a.links × FirstMissing st h w (take a.len out) a.gap a.upto
+LookPlaced st s w h ls out (Ok (Ok t)) = EntryPlaced st s w ls out t
+LookPlaced st s w h ls out (Ok (Err a)) = InFront ls out a.len a.links × FirstMissing st h w (take a.len out) a.gap a.upto
 LookPlaced st s w h ls out (Err r) = Unit {0}
 
 -- the lookup of the path in the text, with a bound on last links

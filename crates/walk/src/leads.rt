@@ -7,7 +7,7 @@ ghost use Rattle.store.specs.Shows.{Some};
 ghost use Rattle.walk.specs.Meets.{PathIn};
 ghost use Rattle.walk.specs.Leads.{LeadsIn, LastIn};
 
-use crate::lookup::{Looked, lookup_entry_detail};
+use crate::lookup::lookup_entry_detail;
 use crate::{Search, There};
 use ask_find::Gap;
 use layout::kind::Kind;
@@ -19,10 +19,7 @@ pub fn leads(scope: Search, out: &mut [u8], len: usize) -> Result<There, Refusal
     requires { Some (with_tree scope.tree) × PathIn out.old len }
     ensures { let q = scope.entry in LeadsIn (still (with_tree q.tree)) (steps.leads q.bound) (take len out.old) (hidden_at q.hidden) out.new result }
 {
-    match lookup_entry_detail(scope, out, len)? {
-        Looked::Found(there) => Ok(there),
-        Looked::Missing(_) => Err(Refusal::NotFound),
-    }
+    lookup_entry_detail(scope, out, len)?.or(Err(Refusal::NotFound))
 }
 
 // find_directory_mut: the path in out[..len] leads to a directory; NotFound: missing, NotDirectory: a file.
@@ -38,18 +35,24 @@ pub fn find_directory(scope: Search, out: &mut [u8], len: usize) -> Result<There
     }
 }
 
-// An entry, maybe a link, or the place of a missing one; the length is that of its directory's path, which now stands in front of the
-// buffer.
-// kept: it stands within a Result, whose Err is a refusal; a missing entry is none, and a Result in a Result is no plainer.
+// The place of a missing entry, the length of its directory's path, which now stands in front of the buffer, and how many links were
+// followed.
 #[derive(Clone, Copy)]
-pub enum Last {
-    Found(There),
-    Missing { gap: Gap, len: usize, links: usize },
+pub struct Unmade {
+    pub gap: Gap,
+    pub len: usize,
+    pub links: usize,
 }
 
-// The entry `name` of the directory to which the path in out[..len] leads, there or not; only that path is followed.
+// The entry `name` of the directory to which the path in out[..len] leads, there or not; only that path is followed. An entry that is
+// there may be a link; its length is that of its directory's path.
 // kept: the buffer is lent by the caller, so the length of the path in front of it goes beside it.
-pub fn last_entry(scope: Search, out: &mut [u8], len: usize, name: &[u8]) -> Result<Last, Refusal>
+pub fn last_entry(
+    scope: Search,
+    out: &mut [u8],
+    len: usize,
+    name: &[u8],
+) -> Result<Result<There, Unmade>, Refusal>
     requires { Some (with_tree scope.tree) × PathIn out.old len }
     ensures { let q = scope.entry in LastIn (still (with_tree q.tree)) (take len out.old) name.now (hidden_at q.hidden) q.bound out.new result }
 {
@@ -58,12 +61,12 @@ pub fn last_entry(scope: Search, out: &mut [u8], len: usize, name: &[u8]) -> Res
     match store::child(tree.words, tree.records, tree.bytes, dir.spot, name, hidden) {
         Ok(spot) => {
             let kind = store::kind(tree.words, tree.records, tree.heads, spot);
-            Ok(Last::Found(There { spot, kind, ..dir }))
+            Ok(Ok(There { spot, kind, ..dir }))
         }
-        Err(gap) => Ok(Last::Missing {
+        Err(gap) => Ok(Err(Unmade {
             gap,
             len: dir.len,
             links: dir.links,
-        }),
+        })),
     }
 }

@@ -31,14 +31,6 @@ pub struct Absent {
     pub links: usize,
 }
 
-// What a lookup through all links ends in.
-// kept: it stands within a Result, whose Err is a refusal; a missing entry is none, and a Result in a Result is no plainer.
-#[derive(Clone, Copy)]
-pub enum Looked {
-    Found(There),
-    Missing(Absent),
-}
-
 // The links that a walk has met before the last name.
 #[derive(Clone, Copy)]
 pub struct Walk {
@@ -94,10 +86,14 @@ pub fn lookup_entry_detail_no_follow(
     }
 }
 
-// The path in out[..len], with all its links followed; of last links as many as the bound, the number of links in the tree. The root,
+// What the path in out[..len] leads to with all its links followed, there or absent; of last links as many as the bound, the number of links in the tree. The root,
 // record 0, is never hidden.
 // kept: the buffer is lent by the caller, so the length of the path in front of it goes beside it.
-pub fn lookup_entry_detail(scope: Search, out: &mut [u8], len: usize) -> Result<Looked, Refusal>
+pub fn lookup_entry_detail(
+    scope: Search,
+    out: &mut [u8],
+    len: usize,
+) -> Result<Result<There, Absent>, Refusal>
     requires { Some (with_tree scope.tree) × PathIn out.old len }
     ensures { let q = scope.entry in LooksIn (still (with_tree q.tree)) (take len out.old) (hidden_at q.hidden) q.bound out.new result }
 {
@@ -117,7 +113,7 @@ pub fn lookup_entry_detail(scope: Search, out: &mut [u8], len: usize) -> Result<
                     len,
                     links,
                 };
-                return Ok(Looked::Found(there));
+                return Ok(Ok(there));
             }
             End::Missing { gap, upto } => {
                 let absent = Absent {
@@ -126,7 +122,7 @@ pub fn lookup_entry_detail(scope: Search, out: &mut [u8], len: usize) -> Result<
                     len,
                     links,
                 };
-                return Ok(Looked::Missing(absent));
+                return Ok(Err(absent));
             }
             End::LastLink { spot, dir } => {
                 if left == 0 {

@@ -20,29 +20,29 @@ returns-in_err-looked c =
     λ st s h. does-passed _ _ c.from_residual.ensures.1 h (read-refused _ (c.in_err-looked.ensures st s h))
 
 pub returns-then-absent-eq0 : goal.returns-then-absent-eq0
-returns-then-absent-eq0 c = λ st s h. does-refused _ s _ h _ _ (read-no-name _ (as_looked c.in-Missing.is (c.in_ok-looked.ensures st s h)) c.if-absent-eq0.true)
+returns-then-absent-eq0 c = λ st s h. does-refused _ s _ h _ _ (read-no-name _ (as_looked c.in-Err.is (c.in_ok-looked.ensures st s h)) c.if-absent-eq0.true)
 
 pub returns-else-absent-eq0 : goal.returns-else-absent-eq0
 returns-else-absent-eq0 c =
-    λ st s h. does-refused _ s _ h _ _ (read-missing _ (as_looked c.in-Missing.is (c.in_ok-looked.ensures st s h)) c.if-absent-eq0.false (room (goal.at.returns-else-absent-eq0 c).After-lookup))
+    λ st s h. does-refused _ s _ h _ _ (read-missing _ (as_looked c.in-Err.is (c.in_ok-looked.ensures st s h)) c.if-absent-eq0.false (room (goal.at.returns-else-absent-eq0 c).After-lookup))
 
 pub returns-then-there-eq0 : goal.returns-then-there-eq0
-returns-then-there-eq0 c = λ st s h. does-refused _ s _ h _ _ (read-root _ (as_looked c.in-Found.is (c.in_ok-looked.ensures st s h)) c.if-there-eq0.true)
+returns-then-there-eq0 c = λ st s h. does-refused _ s _ h _ _ (read-root _ (as_looked c.in-Ok.is (c.in_ok-looked.ensures st s h)) c.if-there-eq0.true)
 
 pub returns-then-ne : goal.returns-then-ne
 returns-then-ne c =
-    λ st s h. does-refused _ s _ h _ _ (read-wrong _ (as_looked c.in-Found.is (c.in_ok-looked.ensures st s h)) c.if-there-eq0.false (room (goal.at.returns-then-ne c).After-lookup) (other_kind _ _ c.if-ne.ensures))
+    λ st s h. does-refused _ s _ h _ _ (read-wrong _ (as_looked c.in-Ok.is (c.in_ok-looked.ensures st s h)) c.if-there-eq0.false (room (goal.at.returns-then-ne c).After-lookup) (other_kind _ _ c.if-ne.ensures))
 
 pub returns-in_err-put_bytes : goal.returns-in_err-put_bytes
 returns-in_err-put_bytes c =
-    λ st s h. does-err _ _ c.from_residual-in_err-put_bytes.ensures.1 (let l = as_looked c.in-Found.is (c.in_ok-looked.ensures st s h) in
+    λ st s h. does-err _ _ c.from_residual-in_err-put_bytes.ensures.1 (let l = as_looked c.in-Ok.is (c.in_ok-looked.ensures st s h) in
     bytes-refused _ s _ h _ _ _ _ _ _ _ _
     (read-file _ l c.if-there-eq0.false (room (goal.at.returns-in_err-put_bytes c).After-lookup) (same_kind _ _ c.if-ne.ensures) _ (c.contents-contents.ensures st s h _ l.place.1.at))
     c.in_err-put_bytes.ensures (not-zero _))
 
 pub returns : goal.returns
 returns c =
-    λ st s h. let l = as_looked c.in-Found.is (c.in_ok-looked.ensures st s h) in
+    λ st s h. let l = as_looked c.in-Ok.is (c.in_ok-looked.ensures st s h) in
     bytes-told _ s _ h _ _ _ _ _ _ _ _
     (read-file _ l c.if-there-eq0.false (room (goal.at.returns c).After-lookup) (same_kind _ _ c.if-ne.ensures) _ (c.contents-contents.ensures st s h _ l.place.1.at))
     c.in_ok-put_bytes.ensures refl _ l.place.0.counted
