@@ -23,11 +23,11 @@ use Rattle.store.specs.Shows.{Shows, SomeEntry}
 use Rattle.store.specs.Listing.{listed, StepIs, SomeFitting}
 use Rattle.store.proofs.Asked.{told}
 
--- an entry of a store that shows a state is one of a lawful store
-pub placed : (words records : List ℕ) (spot : Spot) → SomeEntry (with_words words ∘ with_records records) spot → Placed (take (get_or words count_at 0) records) spot
-placed words records spot x =
+-- an entry of a store that shows a state is one of a lawful store, by the records that there are
+pub placed_live : {words records live : List ℕ} {spot : Spot} → live ≡ take (get_or words count_at 0) records → SomeEntry (with_words words ∘ with_records records) spot → Placed live spot
+placed_live {words} {records} e x =
     let u = (with_words words ∘ with_records records) x.0 in
-    (u.bytes, record { store = trim u; path = x.2; records = refl; bytes = refl; lawful = x.3.roomy.lawful; at = x.4 })
+    (u.bytes, record { store = trim u; path = x.2; records = sym e; bytes = refl; lawful = x.3.roomy.lawful; at = x.4 })
 
 module _ {u : Store} {s : State} (h : Shows u s) (p : Path) where
   pub listed-told : listing_of (trim u) p ≡ listed s p
