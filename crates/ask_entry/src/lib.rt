@@ -139,12 +139,10 @@ fn number_word(words: &[u64], n: usize, i: usize) -> u64
 pub fn number_at(words: &[u64], n: usize) -> Option<Opened>
     ensures { TellsNumber words.now n result }
 {
-    let h = number_word(words, n, HOLDER_AT);
-    if h == 0 {
-        return None;
-    }
+    // kept: no slot_held, which asks its callers that the number and its words are there
+    let slot = number_word(words, n, HOLDER_AT).checked_sub(1)?;
     Some(Opened {
-        slot: (h - 1) as usize,
+        slot: slot as usize,
         pos: number_word(words, n, POSITION_AT),
     })
 }

@@ -10,9 +10,7 @@ ghost use Rattle.ask_used.specs.Answers.{Counted, Linked, Weighed, held_in, Tell
 
 use ask_find::Spot;
 use layout::kind::Kind;
-use layout::{
-    COUNT_AT, FILE_NUMBERS, HOLDER_AT, MOST_SLOTS, NUMBER_WORDS, depth_of, len_of, nlen_of, slot_of,
-};
+use layout::{COUNT_AT, FILE_NUMBERS, MOST_SLOTS, depth_of, len_of, nlen_of, slot_held, slot_of};
 use slots::marks::is_held;
 
 // The bytes of some entries, and the record behind them.
@@ -126,7 +124,7 @@ fn none_open(words: &[u64]) -> bool
     requires { extent_at ≤ length words.now }
     ensures { result ≡ true → AllClosed words.now }
 {
-    (0..FILE_NUMBERS).all(|j| words[HOLDER_AT + NUMBER_WORDS * j] == 0)
+    (0..FILE_NUMBERS).all(|n| slot_held(words, n).is_none())
 }
 
 // "Bytes used are names, targets and contents in the tree, plus contents of removed files still open."

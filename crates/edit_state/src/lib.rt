@@ -11,6 +11,7 @@ ghost use Rattle.edit_state.specs.Numbers.{IsOpen, MayOpen};
 
 use layout::{
     CELL_BYTES, COUNT_AT, HERE_AT, HOLDER_AT, KEPT_AT, MASK_AT, NUMBER_WORDS, POSITION_AT,
+    slot_held,
 };
 use slots::marks::{is_held, is_used};
 
@@ -72,14 +73,15 @@ pub fn close_number(
     ensures { OnLawful (on_words words.old words.new & still (with_records records.now) & on_heads heads.old heads.new
         & on_bytes bytes.old bytes.new) (Edits (close n)) }
 {
-    let h = words[HOLDER_AT + NUMBER_WORDS * n];
+    let Some(slot) = slot_held(words, n) else {
+        return;
+    };
     words[HOLDER_AT + NUMBER_WORDS * n] = 0;
-    if is_held(words, h) {
+    if is_held(words, slot as u64 + 1) {
         return;
     }
     let count = words[COUNT_AT] as usize;
-    let slot = (h - 1) as usize;
-    if is_used(records, count, slot) {
+    if is_used(&records[..count], slot) {
         return;
     }
     slots::clear(heads, bytes, slot);

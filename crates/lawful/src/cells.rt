@@ -5,7 +5,7 @@ ghost use Rattle.layout.specs.Lawful.{cell_ok};
 ghost use Rattle.lawful_limits.specs.Settles.{Settles};
 ghost use Rattle.lawful.specs.Parts.{piece_ok, kept_in, number_in, Kept};
 
-use layout::{CELL_BYTES, FILE_NUMBERS, HERE_AT, HOLDER_AT, KEPT_AT, NUMBER_WORDS};
+use layout::{CELL_BYTES, FILE_NUMBERS, HERE_AT, KEPT_AT, NUMBER_WORDS, slot_held};
 use path::lengths::LONGEST_NAME;
 use path::pieces::{Piece, kind_of};
 use text::text_ok;
@@ -50,12 +50,11 @@ fn numbers_ok(words: &[u64], paths: &[u8], n: usize) -> bool
     ensures { Settles result ((j : ℕ) → j < file_numbers → T (number_in words.now paths.now n j)) }
 {
     for j in 0..FILE_NUMBERS {
-        let h = words[HOLDER_AT + NUMBER_WORDS * j];
-        if h == 0 {
+        let Some(slot) = slot_held(words, j) else {
             continue;
-        }
+        };
         let used = words[KEPT_AT + NUMBER_WORDS * j];
-        if n < h as usize || !cell_ok(paths, j + 1, used) {
+        if n <= slot || !cell_ok(paths, j + 1, used) {
             return false;
         }
     }

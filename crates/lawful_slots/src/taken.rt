@@ -5,7 +5,7 @@ ghost use Rattle.slots.specs.Uses.{Within};
 ghost use Rattle.lawful_slots.specs.Uses.{filled, entry_word, NamedBy, OpenedBy};
 
 use layout::kind::Kind;
-use layout::{FILE_NUMBERS, HOLDER_AT, MOST_SLOTS, NUMBER_WORDS, kind_of, len_of, slot_of};
+use layout::{FILE_NUMBERS, MOST_SLOTS, kind_of, len_of, slot_held, slot_of};
 
 // Whether the word can be that of an entry's slot: a directory's, which has no bytes, a file's or a link's.
 // kept: the kind as a number; by `Kind::of` the test of 4,096 entries takes 11.6 ns an entry for 10.7, further above its goal of 10 (docs/BENCH.md)
@@ -44,12 +44,13 @@ pub fn take_open(words: &[u64], heads: &[u64], taken: &mut [u8; MOST_SLOTS]) -> 
 {
     let mut more = 0;
     for j in 0..FILE_NUMBERS {
-        let h = words[HOLDER_AT + NUMBER_WORDS * j] as usize;
-        // closed, or on none of these slots
-        if h == 0 || heads.len() < h {
+        let Some(k) = slot_held(words, j) else {
+            continue;
+        };
+        // on none of these slots
+        if heads.len() <= k {
             continue;
         }
-        let k = h - 1;
         if Kind::of(heads[k]) != Some(Kind::File) {
             return None;
         }

@@ -4,6 +4,7 @@ pub mod Walks
 pub mod Homes
 pub mod Roots
 pub mod Kinded
+pub mod Held
 pub mod Named
 pub mod Numbered
 pub mod Tables

@@ -10,3 +10,4 @@ pub mod Lent
 pub mod Parts
 pub mod Answers
 pub mod Runs
+pub mod Holders

@@ -1,7 +1,8 @@
 #![tactic(auto)]
 // The numbers of the layout, as specs/Numbers.antt has them, and the fields of the words of a store.
 ghost use Rattle.std.specs.Prelude.{◌≡◌, ◌<◌, ◌≤◌, length};
-ghost use Rattle.layout.specs.Numbers.{most_entries, depths, name_lengths, slot_numbers, lengths, kinds};
+ghost use Rattle.layout.specs.Numbers.{most_entries, depths, name_lengths, slot_numbers, lengths, kinds, holder_at};
+ghost use Rattle.layout.specs.Holders.{slot_held};
 ghost use Rattle.layout.specs.Fields.{depth_of, nlen_of, slot_of, record_word, len_of, kind_of, mode_of, head_word};
 ghost use Rattle.layout.specs.Rows.{name_total};
 
@@ -114,6 +115,14 @@ pub fn mode_of(h: u64) -> u32
     ensures { result ≡ mode_of h }
 {
     (h / MODE_UNIT) as u32
+}
+
+// The slot that the file number n stands on; None where it is closed.
+pub fn slot_held(words: &[u64], n: usize) -> Option<usize>
+    requires { holder_at n < length words.now }
+    ensures { result ≡ slot_held words.now n }
+{
+    (words[HOLDER_AT + NUMBER_WORDS * n] as usize).checked_sub(1)
 }
 
 // The word of a slot.

@@ -1,9 +1,10 @@
 -- Whether a number stands on a slot, and whether an entry has it.
 -- Assumes nothing.
-use mathlib.Core.Bool.{Bool, true, false, ◌||◌, cond, or_assoc}
+use mathlib.Core.Bool.{Bool, true, false, ◌||◌, cond}
 use mathlib.Core.List.{List, [], ◌∷◌}
-use mathlib.Core.Path.{◌≡◌, refl}
-use Prim.Native.Nat.{ℕ, zero, suc, ◌+◌, ◌-◌, ◌*◌, ◌≤◌, ◌<◌}
+use mathlib.Core.Path.{◌≡◌, refl, ap, ◌∙◌}
+use Rattle.std.specs.List.{list_any, range_with_len}
+use Prim.Native.Nat.{ℕ, zero, suc, ◌+◌, ◌*◌, ◌≤◌}
 use native.Mathlib.Numerals.{add-one}
 use native.Mathlib.Omega.{arith}
 use lib.Dec.{eqb}
@@ -15,15 +16,11 @@ use Rattle.layout.specs.Store.{lent}
 use Rattle.layout.specs.Lawful.{uses, held_from}
 use Rattle.slots.specs.Uses.{is_used}
 
--- one number more
-pub held_more : (ws : List ℕ) (h i : ℕ) (b : Bool) → 0 < h → i < 32
-    → ((b || eqb (get_or ws (5 + 3 * i) 0) h) || held_from (lent ws [] [] [] [] []) (32 - (i + 1)) (i + 1) (h - 1)) ≡ (b || held_from (lent ws [] [] [] [] []) (32 - i) i (h - 1))
+-- a word among those of n numbers from i on
+pub held-any : (ws : List ℕ) (h k n i : ℕ) → h ≡ suc k → list_any (λ j. eqb (get_or ws (5 + 3 * j) 0) h) (range_with_len i n) ≡ held_from (lent ws [] [] [] [] []) n i k
 unfolding held_from
-held_more ws zero i b p q = absurd (omega arith)
-held_more ws (suc h) i b p q =
-    let c : 32 - i ≡ suc (32 - (i + 1)) = omega arith in
-    let r : suc h - 1 ≡ h = omega arith in
-    rw (c, r, add-one i) (or_assoc b (eqb (get_or ws (5 + 3 * i) 0) (suc h)) (held_from (lent ws [] [] [] [] []) (32 - suc i) (suc i) h))
+held-any ws h k zero i e = refl
+held-any ws h k (suc n) i e = rw add-one (ap (λ (m : ℕ). eqb (get_or ws (5 + 3 * i) 0) m || list_any (λ j. eqb (get_or ws (5 + 3 * j) 0) h) (range_with_len (suc i) n)) e ∙ ap (λ (t : Bool). eqb (get_or ws (5 + 3 * i) 0) (suc k) || t) (held-any ws h k n (suc i) e))
 
 -- the entries that have the slot
 pub used_some : (k : ℕ) (ws : List ℕ) (bs : Bytes) → is_used k ws ≡ true → 1 ≤ uses k (rows ws bs)

@@ -5,7 +5,7 @@ ghost use Rattle.layout.specs.Store.{lent};
 ghost use Rattle.layout.specs.Lawful.{held_from};
 ghost use Rattle.slots.specs.Uses.{stands_from, Within, Standing, MarkedBy, is_used};
 
-use layout::{FILE_NUMBERS, HOLDER_AT, MOST_SLOTS, NUMBER_WORDS, slot_of};
+use layout::{FILE_NUMBERS, HOLDER_AT, MOST_SLOTS, NUMBER_WORDS, slot_held, slot_of};
 
 // Marks the slot of each record; false where one is marked already.
 pub fn mark_records(recs: &[u64], marks: &mut [u8; MOST_SLOTS]) -> bool
@@ -31,11 +31,9 @@ pub fn mark_numbers(words: &[u64], marks: &mut [u8; MOST_SLOTS])
         × (length marks.new ≡ most_slots) }
 {
     for j in 0..FILE_NUMBERS {
-        let h = words[HOLDER_AT + NUMBER_WORDS * j] as usize;
-        if h == 0 {
+        let Some(s) = slot_held(words, j) else {
             continue;
-        }
-        let s = h - 1;
+        };
         let m = marks[s];
         if 2 <= m {
             continue;
@@ -44,28 +42,17 @@ pub fn mark_numbers(words: &[u64], marks: &mut [u8; MOST_SLOTS])
     }
 }
 
-// Whether a number has the word h: one more than the slot that it stands on. Every number is looked at, so that the compiler tests many at
-// a time.
-#[tactic(auto, using(crate::proofs::Seeking::held_more), unfolding(layout::specs::Lawful::held_from))]
+// Whether a number has the word h: one more than the slot that it stands on.
 pub fn is_held(words: &[u64], h: u64) -> bool
     requires { (length words.now ≡ word_count) × (0 < h) }
     ensures { result ≡ held_from (lent words.now [] [] [] [] []) file_numbers 0 (h - 1) }
 {
-    let mut held = false;
-    for i in 0..FILE_NUMBERS {
-        held |= words[HOLDER_AT + NUMBER_WORDS * i] == h;
-    }
-    held
+    (0..FILE_NUMBERS).any(|n| words[HOLDER_AT + NUMBER_WORDS * n] == h)
 }
 
-// Whether one of the first n records has the slot. Every one is looked at, as above.
-pub fn is_used(records: &[u64], n: usize, slot: usize) -> bool
-    requires { n ≤ length records.now }
-    ensures { result ≡ is_used slot (take n records.now) }
+// Whether one of the records has the slot.
+pub fn is_used(records: &[u64], slot: usize) -> bool
+    ensures { result ≡ is_used slot records.now }
 {
-    let mut used = false;
-    for w in &records[..n] {
-        used |= slot_of(*w) == slot;
-    }
-    used
+    records.iter().any(|w| slot_of(*w) == slot)
 }
