@@ -45,14 +45,21 @@ fn put_if(times: &mut [i64], i: usize, given: Option<i64>)
     }
 }
 
+// What may be given of the times of a file.
+#[derive(Clone, Copy)]
+pub struct Given {
+    pub accessed: Option<i64>,
+    pub modified: Option<i64>,
+}
+
 // The times accessed and modified, each if it is given.
-pub fn set_some_times(times: &mut [i64], slot: usize, accessed: Option<i64>, modified: Option<i64>)
+pub fn set_some_times(times: &mut [i64], slot: usize, given: Given)
     requires { 4 * slot + 3 < length times.old }
     ensures { OnLawful (on_times times.old times.new) (λ st u. slot < length st.heads
-        → Changes (touch_some (in_model accessed) (in_model modified)) st u slot) }
+        → Changes (touch_some (in_model given.accessed) (in_model given.modified)) st u slot) }
 {
-    put_if(times, 4 * slot, accessed);
-    put_if(times, 4 * slot + 3, modified);
+    put_if(times, 4 * slot, given.accessed);
+    put_if(times, 4 * slot + 3, given.modified);
 }
 
 // Other bytes of a file, and the time modified.

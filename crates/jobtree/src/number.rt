@@ -8,6 +8,7 @@ ghost use Rattle.layout.specs.Answers.{Answers};
 ghost use Rattle.op.specs.Lending.{call_with, in_bytes, in_rows, in_number, in_nothing};
 ghost use Rattle.op.specs.Doing.{Done};
 
+use edit_slot::Given;
 use lawful::sizes::known;
 use layout::WORD_COUNT;
 use layout::slices::Slices;
@@ -267,8 +268,7 @@ pub extern "C" fn jobtree_set_times_number(
                 &words[..WORD_COUNT],
                 &mut times[..used.times],
                 n as usize,
-                accessed,
-                modified,
+                Given { accessed, modified },
             );
             known(times);
             answer(r)

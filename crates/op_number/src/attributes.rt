@@ -7,6 +7,7 @@ ghost use Rattle.edit_slot.specs.Times.{in_model};
 ghost use Rattle.op.specs.Lending.{in_nothing};
 ghost use Rattle.op_number.specs.Opened.{SomeOpen, OpenAnswered};
 
+use edit_slot::Given;
 use refusal::Refusal;
 
 // The number is open no more.
@@ -56,17 +57,11 @@ pub fn set_mode_on(words: &[u64], heads: &mut [u64], n: usize, mode: u32) -> Res
 }
 
 // The times accessed and modified of its file, each if it is given.
-pub fn set_times_on(
-    words: &[u64],
-    times: &mut [i64],
-    n: usize,
-    accessed: Option<i64>,
-    modified: Option<i64>,
-) -> Result<(), Refusal>
+pub fn set_times_on(words: &[u64], times: &mut [i64], n: usize, given: Given) -> Result<(), Refusal>
     requires { SomeOpen (with_words words.now ∘ with_times times.old) n }
     ensures { OpenAnswered (still (with_words words.now) & on_times times.old times.new) n
-        (λ _. set_times_on n (in_model accessed) (in_model modified)) in_nothing in_nothing (answered result) }
+        (λ _. set_times_on n (in_model given.accessed) (in_model given.modified)) in_nothing in_nothing (answered result) }
 {
-    store_edit::number::touch_held(words, times, n, accessed, modified);
+    store_edit::number::touch_held(words, times, n, given);
     Ok(())
 }

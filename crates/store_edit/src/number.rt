@@ -11,6 +11,7 @@ ghost use Rattle.edit_slot.specs.Times.{in_model};
 ghost use Rattle.store_edit.specs.Turns.{SomeState, SomeSpot, NumberOpen, TurnsHeld, MayOpenOn, Opens, MayResize, Resizes};
 
 use ask_find::Spot;
+use edit_slot::Given;
 use layout::{EXTENT_AT, slot_of};
 
 // Opens the closed number n on the file at the spot; the path, a text as it is kept, is the file's.
@@ -61,18 +62,12 @@ pub fn chmod_held(words: &[u64], heads: &mut [u64], n: usize, m: u32)
 }
 
 // The times accessed and modified of its file, each if it is given.
-pub fn touch_held(
-    words: &[u64],
-    times: &mut [i64],
-    n: usize,
-    accessed: Option<i64>,
-    modified: Option<i64>,
-)
+pub fn touch_held(words: &[u64], times: &mut [i64], n: usize, given: Given)
     requires { SomeState (with_words words.now ∘ with_times times.old) (λ st s. NumberOpen n s) }
     ensures { On (still (with_words words.now) & on_times times.old times.new)
-        (TurnsHeld n (change_held n (touch_some (in_model accessed) (in_model modified)))) }
+        (TurnsHeld n (change_held n (touch_some (in_model given.accessed) (in_model given.modified)))) }
 {
-    edit_slot::set_some_times(times, held_slot(words, n), accessed, modified);
+    edit_slot::set_some_times(times, held_slot(words, n), given);
 }
 
 // Its file is cut to so many bytes, or extended by zeros.

@@ -11,6 +11,7 @@ ghost use Rattle.edit_room.specs.Extents.{Roomy};
 ghost use Rattle.edit_slot.specs.Changes.{HasRoom};
 
 use crate::asked::{ready, room_for};
+use edit_slot::Given;
 use layout::kind::Kind;
 use layout::slices::Slices;
 use layout::{COUNT_AT, EXTENT_AT, kind_of, len_of, slot_of};
@@ -101,7 +102,7 @@ pub fn try_some_times(
     let Some(slot) = slot_at(words, records, slots, i) else {
         return false;
     };
-    edit_slot::set_some_times(times, slot, accessed, modified);
+    edit_slot::set_some_times(times, slot, Given { accessed, modified });
     true
 }
 

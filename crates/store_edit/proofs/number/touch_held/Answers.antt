@@ -15,4 +15,4 @@ returns c st s h o =
     let g = c.args in
     let k = c.held_slot.ensures in
     let x = c.set_some_times.ensures (trimmed h) h.roomy.lawful (omega (arith, k.1, (open_at _ s h g.n o).1.low)) in
-    shows_same (change_held g.n (touch_some (in_model g.accessed) (in_model g.modified)) ∷ []) h (x.by_number g.n k.0 k.1) refl refl
+    shows_same (change_held g.n (touch_some (in_model g.given.accessed) (in_model g.given.modified)) ∷ []) h (x.by_number g.n k.0 k.1) refl refl
