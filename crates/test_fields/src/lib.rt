@@ -1,86 +1,68 @@
 #![tactic(auto)]
-// The fields of a line of text, for the programs that read cases. Only for tests.
-ghost use Rattle.std.specs.Prelude.{◌≤◌, length};
+// The lines of a text and the fields of a line, for the programs that read cases. Only for tests.
+ghost use Rattle.std.specs.Prelude.{◌≡◌, ◌==◌, [], map, slice_index_or, IfOk};
+ghost use Rattle.std.specs.List.{slice_split};
+ghost use Rattle.test_fields.specs.Lines.{but_last_newline, lines_of};
 
-// The byte at i, or 0 behind the end.
-pub fn at(s: &[u8], i: usize) -> u8 {
-    if i < s.len() {
-        return s[i];
-    }
-    0
-}
+use std::alloc::{AllocError, Global};
 
-// The first n bytes, or all where there are fewer.
-pub fn front(s: &[u8], n: usize) -> &[u8] {
-    if s.len() < n {
-        return s;
-    }
-    &s[0..n]
-}
-
-// Where the byte b stands first from `from` on, or the length.
-pub fn find(s: &[u8], from: usize, b: u8) -> usize
-    requires { from ≤ length s.now }
-    ensures { (from ≤ result) × (result ≤ length s.now) }
+// What stands between the bytes of that value.
+fn between(alloc: Global, text: &[u8], at: u8) -> Result<Vec<&[u8]>, AllocError>
+    ensures { IfOk result (λ v. map (λ part. part.now) v.items ≡ slice_split (λ byte. byte == at) text.now) }
 {
-    let mut i = from;
-    while i < s.len() {
-        if s[i] == b {
-            return i;
-        }
-        i += 1;
-    }
-    i
+    text.split(|byte| *byte == at).collect(alloc)
 }
 
-// How many spaces the line has: one less than its fields.
-pub fn spaces(s: &[u8]) -> usize {
-    let mut n = 0;
-    let mut i = 0;
-    while i < s.len() {
-        if s[i] == b' ' {
-            n += 1;
-        }
-        i += 1;
-    }
-    n
-}
-
-// Where field k begins: behind k spaces, or at the end where there are not so many.
-pub fn field_start(s: &[u8], k: usize) -> usize
-    ensures { result ≤ length s.now }
+fn but_last_newline(text: &[u8]) -> &[u8]
+    ensures { result.now ≡ but_last_newline text.now }
 {
-    let mut a = 0;
-    let mut j = 0;
-    while j < k {
-        let e = find(s, a, b' ');
-        if e == s.len() {
-            return e;
-        }
-        a = e + 1;
-        j += 1;
+    match text {
+        [before @ .., b'\n'] => before,
+        _ => text,
     }
-    a
 }
 
-// Field k, counted from 0.
-pub fn field(s: &[u8], k: usize) -> &[u8] {
-    let a = field_start(s, k);
-    let e = find(s, a, b' ');
-    &s[a..e]
+// The lines of a text without the newlines behind them; behind the last there may be none.
+pub fn lines(alloc: Global, text: &[u8]) -> Result<Vec<&[u8]>, AllocError>
+    ensures { IfOk result (λ v. map (λ line. line.now) v.items ≡ lines_of text.now) }
+{
+    if text.is_empty() {
+        return Ok(Vec::new(alloc));
+    }
+    between(alloc, but_last_newline(text), b'\n')
 }
 
-// Whether the two are the same bytes.
-pub fn same(a: &[u8], b: &[u8]) -> bool {
-    if a.len() != b.len() {
-        return false;
+// The fields of a line, split by single spaces.
+pub fn fields(alloc: Global, line: &[u8]) -> Result<Vec<&[u8]>, AllocError>
+    ensures { IfOk result (λ v. map (λ field. field.now) v.items ≡ slice_split (λ byte. byte == 32) line.now) }
+{
+    between(alloc, line, b' ')
+}
+
+// Field k, counted from 0; nothing where there are not so many.
+pub fn field<'a>(fields: &[&'a [u8]], k: usize) -> &'a [u8]
+    ensures { result.now ≡ slice_index_or (map (λ field. field.now) fields.now) k [] }
+{
+    fields.get(k).copied().unwrap_or_default()
+}
+
+#[cfg(test)]
+mod tests {
+    use super::*;
+    use std::test::Fail;
+
+    #[test]
+    fn splits(rt: HostRuntime) -> Result<(), Fail> {
+        let text = lines(rt.alloc(), b"root 1\n\nmode  2")?;
+        assert_eq!(rt; text.len(), 3);
+        assert!(rt; text[0] == b"root 1".as_slice());
+        assert!(rt; text[1].is_empty());
+        let found = fields(rt.alloc(), text[2])?;
+        assert_eq!(rt; found.len(), 3);
+        assert!(rt; field(&found, 2) == b"2".as_slice());
+        assert!(rt; field(&found, 3).is_empty());
+        assert_eq!(rt; lines(rt.alloc(), b"")?.len(), 0);
+        assert_eq!(rt; lines(rt.alloc(), b"a\n")?.len(), 1);
+        Ok(())
     }
-    let mut i = 0;
-    while i < a.len() {
-        if a[i] != at(b, i) {
-            return false;
-        }
-        i += 1;
-    }
-    true
 }
