@@ -1,59 +1,41 @@
 // What is read, and the numbers of a line.
-ghost use Rattle.std.specs.Prelude.{◌≤◌, IfOk, length};
+ghost use Rattle.std.specs.Prelude.{◌≡◌, IfOk, IfSome, take};
 
-use crate::text::wide;
+use std::alloc::Global;
 use std::io::{Read, Result};
-use test_fields::at;
 
-// Reads until the slice is full or there is no more, and tells how many bytes.
-pub fn input<R: Read>(from: &mut R, into: &mut [u8]) -> Result<usize>
-    ensures { IfOk result (λ n. n ≤ length into.new) }
+// So many bytes of the input are read at most.
+pub const MOST: u64 = 65536;
+
+// The first bytes of what there is to read.
+pub fn input<R: Read>(alloc: Global, from: &mut R) -> Result<Vec<u8>>
+    ensures { IfSome (R.remaining from.old) (λ all. IfOk result (λ text. text.items ≡ take MOST all)) }
 {
-    let mut n = 0;
-    while n < into.len() {
-        let k = from.read(&mut into[n..])?;
-        if k == 0 {
-            break;
-        }
-        n += k;
-    }
-    Ok(n)
+    let mut text = Vec::new(alloc);
+    from.take(MOST).read_to_end(&mut text)?;
+    Ok(text)
 }
 
-// A digit, decimal or hexadecimal in small letters.
-fn digit(b: u8) -> u64 {
-    if b < b'0' {
-        return 0;
+// The value of a digit. Other bytes have one too: letters in sixes, all else 0.
+// kept: the library's `to_digit` has none for these
+fn digit(byte: u8) -> u64 {
+    match byte {
+        b'0'..=b'9' => u64::from(byte - b'0'),
+        b'a'.. => u64::from((byte - b'a') % 6 + 10),
+        _ => 0,
     }
-    if b <= b'9' {
-        return wide(b - b'0');
-    }
-    if b < b'a' {
-        return 0;
-    }
-    wide((b - b'a') % 6 + 10)
 }
 
-// One more digit behind v, of which the low 60 bits are kept.
-fn shifted(v: u64, d: u64, hex: bool) -> u64 {
-    if hex {
-        return v % 1152921504606846976 * 16 + d % 16;
+// A decimal number below 10 * 2^60, or with 0x before it a hexadecimal one of 64 bits: before a further digit the low 60 bits are kept.
+// kept: the library's parse would refuse what is no digit and what is too long, and every field has a value here
+pub fn number(field: &[u8]) -> u64 {
+    let base = if field.get(1) == Some(&b'x') { 16 } else { 10 };
+    let mut number = 0u64;
+    for byte in field {
+        number = match byte {
+            b'x' => 0,
+            _ => number % (1 << 60) * base + digit(*byte) % base,
+        };
     }
-    v % 1152921504606846976 * 10 + d % 10
-}
-
-// A decimal number below 10 * 2^60, or with 0x before it a hexadecimal one of 64 bits.
-pub fn number(s: &[u8]) -> u64 {
-    let hex = at(s, 1) == b'x';
-    let mut v = 0;
-    let mut i = 0;
-    while i < s.len() {
-        if s[i] == b'x' {
-            v = 0;
-        } else {
-            v = shifted(v, digit(s[i]), hex);
-        }
-        i += 1;
-    }
-    v
+    number
 }

@@ -1,8 +1,0 @@
--- `decode::repeat` is safe and ends: the measure is how many times are left.
-use Rattle.test_shown.proofs.decode.repeat.Given as goal
-
-abbrev pub invariant-loop-left : goal.invariant-loop-left
-invariant-loop-left l = Unit {0}
-
-abbrev pub decreases-loop-left : goal.decreases-loop-left
-decreases-loop-left l = l.left
