@@ -7,56 +7,46 @@
 // hexadecimal digits in small letters, is a byte, and \*NNNN, four decimal digits, repeats the byte before it so that it stands NNNN times.
 // A line that begins with # is skipped; one that is longer than 4,096 bytes or not as above is answered by `?`.
 mod answers;
+mod question;
 
-use crate::answers::{four_args, one_arg, two_args};
-use std::io::{self, Write};
-use test_fields::{at, find, spaces};
-use test_shown::read::input;
-use test_shown::text::{say, say_number};
+use crate::answers::say_answer;
+use crate::question::Question;
+use std::alloc::Global;
+use std::io::{self, BufWriter, Write};
+use test_fields::{fields, lines};
+use test_shown::decode::Malformed;
+use test_shown::read::{MOST, input};
 
-// One line, with its number.
-fn answer<W: Write>(out: &mut W, number: u64, line: &[u8]) -> io::Result<()> {
-    if at(line, 0) == b'#' {
-        return Ok(());
-    }
-    say_number(out, number)?;
-    say(out, b" ")?;
+// The answer to a line of any form and length.
+fn answer<W: Write>(alloc: Global, out: &mut W, line: &[u8]) -> io::Result<()> {
     if line.len() > 4096 {
-        return say(out, b"?\n");
+        return write!(out, "?");
     }
-    let n = spaces(line);
-    if n == 1 {
-        one_arg(out, line)?;
-    } else if n == 2 {
-        two_args(out, line)?;
-    } else if n == 4 {
-        four_args(out, line)?;
-    } else {
-        say(out, b"?")?;
+    match Question::try_from(fields(alloc, line)?.as_slice()) {
+        Ok(question) => say_answer(out, &question),
+        Err(Malformed) => write!(out, "?"),
     }
-    say(out, b"\n")
 }
 
-// Each line of s; a last one needs no newline behind it.
-fn answer_all<W: Write>(out: &mut W, s: &[u8]) -> io::Result<()> {
-    let mut from = 0;
-    let mut number = 0;
-    while from < s.len() {
-        let e = find(s, from, b'\n');
-        number += 1;
-        answer(out, number, &s[from..e])?;
-        from = e + 1;
+// Each line with its number and its answer.
+fn answer_all<W: Write>(alloc: Global, out: &mut W, text: &[u8]) -> io::Result<()> {
+    for (i, line) in lines(alloc, text)?.iter().enumerate() {
+        if line.starts_with(b"#") {
+            continue;
+        }
+        write!(out, "{} ", i + 1)?;
+        answer(alloc, out, line)?;
+        writeln!(out)?;
     }
     Ok(())
 }
 
 fn main(rt: HostRuntime) -> io::Result<()> {
-    let mut space = [0u8; 65536];
-    let n = input(&mut rt.reader(), &mut space)?;
-    let mut out = io::writer(&rt);
-    answer_all(&mut out, &space[..n])?;
-    if n == 65536 {
-        say(&mut out, b"more than 65,535 bytes: the rest is not read\n")?;
+    let text = input(rt.alloc(), &mut rt.reader())?;
+    let mut out = BufWriter::new(rt.alloc(), io::writer(&rt))?;
+    answer_all(rt.alloc(), &mut out, &text)?;
+    if text.len() as u64 == MOST {
+        writeln!(out, "more than 65,535 bytes: the rest is not read")?;
     }
     out.flush()
 }
