@@ -8,49 +8,43 @@
 // 5) only N elements are handed over; `letters-in-paths I N` and `letters-in-bytes I N`, N letters `a` from index I on. A number is
 // decimal below 10 * 2^60, or hexadecimal in small letters behind 0x. A line that begins with # is skipped; `?` is written for a place
 // or HOLDS that is none. Of standard input the first 65,536 bytes are read.
-mod read;
+mod place;
 mod store;
 mod tried;
 
-use std::io::{self, Write};
-use test_fields::{at, find, front};
+use std::alloc::Global;
+use std::io::{self, BufWriter, Write};
+use test_fields::lines;
 use test_shown::read::input;
 
-// What stands behind the colon and its space.
-fn behind(line: &[u8], e: usize) -> &[u8] {
-    if line.len() < 2 {
-        return line;
-    }
-    if line.len() - 2 < e {
-        return front(line, 0);
-    }
-    &line[e + 2..]
+// A case, and what says it in words: that stands behind a colon and its space. A line of one byte says itself.
+fn split(line: &[u8]) -> (&[u8], &[u8]) {
+    let colon = line.iter().position(|byte| *byte == b':');
+    let (case, rest) = line.split_at(colon.unwrap_or(line.len()));
+    let words = if line.len() < 2 {
+        line
+    } else {
+        rest.get(2..).unwrap_or_default()
+    };
+    (case, words)
 }
 
-fn case<W: Write>(out: &mut W, line: &[u8]) -> io::Result<()> {
-    if at(line, 0) == b'#' {
-        return Ok(());
-    }
-    let e = find(line, 0, b':');
-    tried::tried(out, front(line, e), behind(line, e))
-}
-
-// Each line of s.
-fn cases<W: Write>(out: &mut W, s: &[u8]) -> io::Result<()> {
-    let mut from = 0;
-    while from < s.len() {
-        let e = find(s, from, b'\n');
-        case(out, &s[from..e])?;
-        from = e + 1;
+fn cases<W: Write>(alloc: Global, out: &mut W, text: &[u8]) -> io::Result<()> {
+    for line in lines(alloc, text)?.iter() {
+        if line.starts_with(b"#") {
+            continue;
+        }
+        let (case, words) = split(line);
+        tried::tried(alloc, out, case, words)?;
     }
     Ok(())
 }
 
 fn main(rt: HostRuntime) -> io::Result<()> {
-    let mut out = io::writer(&rt);
-    tried::shown_k(&mut out)?;
-    let mut space = [0u8; 65536];
-    let n = input(&mut rt.reader(), &mut space)?;
-    cases(&mut out, &space[..n])?;
+    let mut out = BufWriter::new(rt.alloc(), io::writer(&rt))?;
+    tried::shown_k(rt.alloc(), &mut out)?;
+    out.flush()?;
+    let text = input(rt.alloc(), &mut rt.reader())?;
+    cases(rt.alloc(), &mut out, &text)?;
     out.flush()
 }
