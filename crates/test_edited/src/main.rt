@@ -15,84 +15,43 @@
 // An entry is written as `AT PATH [SLOT: TIMES] KIND, MODE, BYTES`, the times accessed, changed, created and modified. An open
 // number is written with its slot, which may have lost its name. A text of more than 40 bytes is its first and last 8, and a sum.
 mod edit;
+mod edited;
 mod shown;
 
-use std::io::{self, Write};
-use test_fields::{at, find};
+use crate::edit::Edit;
+use crate::edited::{make, set_up};
+use crate::shown::Shown;
+use std::alloc::Global;
+use std::io::{self, BufWriter, Write};
+use test_fields::{fields, lines};
+use test_shown::decode::Malformed;
 use test_shown::read::input;
-use test_shown::text::say;
 
-fn say_answer<W: Write>(out: &mut W, made: bool) -> io::Result<()> {
-    if made {
-        return say(out, b": done\n");
-    }
-    say(out, b": refused\n")
-}
-
-fn one<W: Write>(
-    out: &mut W,
-    words: &mut [u64],
-    records: &mut [u64],
-    heads: &mut [u64],
-    times: &mut [i64],
-    paths: &mut [u8],
-    bytes: &mut [u8],
-    line: &[u8],
-) -> io::Result<()> {
-    if at(line, 0) == b'#' {
-        return Ok(());
-    }
-    let made = edit::edit(words, records, heads, times, paths, bytes, line);
-    say(out, b"> ")?;
-    say(out, line)?;
-    say_answer(out, made)?;
-    if made {
-        shown::say_store(out, words, records, heads, times, paths, bytes)?;
+// Each line and whether its edit was made, and where it was, the store.
+fn edits<W: Write>(alloc: Global, out: &mut W, text: &[u8]) -> io::Result<()> {
+    let mut store = set_up(alloc)?;
+    for line in lines(alloc, text)?.iter() {
+        if line.starts_with(b"#") {
+            continue;
+        }
+        write!(out, "> ")?;
+        out.write_all(line)?;
+        let fields = fields(alloc, line)?;
+        let made = match Edit::try_from(fields.as_slice()) {
+            Ok(edit) => make(&mut store, edit),
+            Err(Malformed) => false,
+        };
+        match made {
+            true => write!(out, ": done\n{}", Shown(&store))?,
+            false => writeln!(out, ": refused")?,
+        }
     }
     Ok(())
-}
-
-// Each line of s.
-fn all<W: Write>(
-    out: &mut W,
-    words: &mut [u64],
-    records: &mut [u64],
-    heads: &mut [u64],
-    times: &mut [i64],
-    paths: &mut [u8],
-    bytes: &mut [u8],
-    s: &[u8],
-) -> io::Result<()> {
-    let mut from = 0;
-    while from < s.len() {
-        let e = find(s, from, b'\n');
-        one(out, words, records, heads, times, paths, bytes, &s[from..e])?;
-        from = e + 1;
-    }
-    Ok(())
-}
-
-fn edits<W: Write>(out: &mut W, s: &[u8]) -> io::Result<()> {
-    let mut words = [77u64; 102];
-    let mut records = [77u64; 40];
-    let mut heads = [77u64; 72];
-    let mut times = [77i64; 288];
-    let mut paths = [b'?'; 33792];
-    let mut bytes = [b'?'; 1024];
-    let w: &mut [u64] = &mut words;
-    let r: &mut [u64] = &mut records;
-    let h: &mut [u64] = &mut heads;
-    let t: &mut [i64] = &mut times;
-    let p: &mut [u8] = &mut paths;
-    let b: &mut [u8] = &mut bytes;
-    let _ = setup::set_up(w, r, h, t, p, b, 40, 1024);
-    all(out, w, r, h, t, p, b, s)
 }
 
 fn main(rt: HostRuntime) -> io::Result<()> {
-    let mut space = [0u8; 65536];
-    let n = input(&mut rt.reader(), &mut space)?;
-    let mut out = io::writer(&rt);
-    edits(&mut out, &space[..n])?;
+    let text = input(rt.alloc(), &mut rt.reader())?;
+    let mut out = BufWriter::new(rt.alloc(), io::writer(&rt))?;
+    edits(rt.alloc(), &mut out, &text)?;
     out.flush()
 }

@@ -1,160 +1,116 @@
 // A store, read back from its slices as docs/LAYOUT.md says.
-use std::io::{Result, Write};
-use test_shown::text::{say, say_mode, say_number, say_short};
-use test_shown::tree::{bytes_start, front_words, name_start, part, say_path, say_slot, word};
+use std::fmt;
+use test_shown::text::{Mode, Short};
+use test_shown::tree::{CELL_BYTES, EXTENT_AT, HERE_AT, MASK_AT, NUMBERS_AT, Store, part, word};
 
-// A time as it stands; no edit gives one before 1970.
-fn since(t: i64) -> u64 {
-    if t > 0 {
-        return t as u64;
-    }
-    0
+// A slot's number, and its four times.
+#[derive(Clone, Copy)]
+struct Times<'a> {
+    store: &'a Store,
+    slot: usize,
 }
 
-// The time at i.
-fn say_time<W: Write>(out: &mut W, times: &[i64], i: usize) -> Result<()> {
-    if i < times.len() {
-        say_number(out, since(times[i]))?;
+impl fmt::Display for Times<'_> {
+    fn fmt<W: fmt::Write>(&self, f: &mut fmt::Formatter<W>) -> fmt::Result {
+        let slot = self.slot;
+        write!(f, " [{slot}:")?;
+        let times = self.store.times.chunks_exact(4).nth(slot);
+        for time in times.unwrap_or_default() {
+            write!(f, " {time}")?;
+        }
+        write!(f, "]")
     }
-    Ok(())
 }
 
-// The number of slot k, and its four times.
-fn say_times<W: Write>(out: &mut W, times: &[i64], k: usize) -> Result<()> {
-    say(out, b" [")?;
-    say_number(out, k as u64)?;
-    say(out, b": ")?;
-    if times.len() <= k {
-        return Ok(());
-    }
-    let i = k * 4;
-    say_time(out, times, i)?;
-    say(out, b" ")?;
-    say_time(out, times, i + 1)?;
-    say(out, b" ")?;
-    say_time(out, times, i + 2)?;
-    say(out, b" ")?;
-    say_time(out, times, i + 3)?;
-    say(out, b"]")
+// The path of so many bytes in a cell; the root's is one slash.
+#[derive(Clone, Copy)]
+struct Cell<'a> {
+    store: &'a Store,
+    cell: usize,
+    length: u64,
 }
 
-fn say_entry<W: Write>(
-    out: &mut W,
-    records: &[u64],
-    heads: &[u64],
-    times: &[i64],
-    bytes: &[u8],
-    i: usize,
-) -> Result<()> {
-    let k = (word(records, i) / 16777216) as usize;
-    say_number(out, i as u64)?;
-    say(out, b" ")?;
-    say_path(out, records, bytes, i)?;
-    say_times(out, times, k)?;
-    say_slot(out, heads, bytes, k)
+impl fmt::Display for Cell<'_> {
+    fn fmt<W: fmt::Write>(&self, f: &mut fmt::Formatter<W>) -> fmt::Result {
+        if self.length == 0 {
+            return f.write_str("/");
+        }
+        let cell = self.store.paths.chunks_exact(CELL_BYTES).nth(self.cell);
+        let path = Short(part(cell.unwrap_or_default(), 0, self.length as usize));
+        write!(f, "{path}")
+    }
 }
 
-fn say_entries<W: Write>(
-    out: &mut W,
-    records: &[u64],
-    heads: &[u64],
-    times: &[i64],
-    bytes: &[u8],
-    count: usize,
-) -> Result<()> {
-    for i in 0..count {
-        say_entry(out, records, heads, times, bytes, i)?;
+// The entries.
+#[derive(Clone, Copy)]
+struct Entries<'a>(&'a Store);
+
+impl fmt::Display for Entries<'_> {
+    fn fmt<W: fmt::Write>(&self, f: &mut fmt::Formatter<W>) -> fmt::Result {
+        let store = self.0;
+        let tree = store.tree();
+        for i in 0..store.entries() {
+            let slot = tree.record(i).slot;
+            let times = Times { store, slot };
+            writeln!(f, "{i} {}{times}{}", tree.path(i), tree.slot(slot))?;
+        }
+        Ok(())
     }
-    Ok(())
 }
 
-// The path of n bytes in cell i; the root is one slash.
-fn say_cell<W: Write>(out: &mut W, paths: &[u8], i: usize, n: usize) -> Result<()> {
-    if 32 < i {
-        return Ok(());
+// The open file numbers.
+#[derive(Clone, Copy)]
+struct Numbers<'a>(&'a Store);
+
+impl fmt::Display for Numbers<'_> {
+    fn fmt<W: fmt::Write>(&self, f: &mut fmt::Formatter<W>) -> fmt::Result {
+        let store = self.0;
+        let numbers = part(&store.words, NUMBERS_AT, EXTENT_AT - NUMBERS_AT);
+        for (n, number) in numbers.chunks_exact(3).enumerate() {
+            let Some(slot) = word(number, 0).checked_sub(1) else {
+                continue;
+            };
+            let slot = slot as usize;
+            let position = word(number, 1);
+            let path = Cell {
+                store,
+                cell: n + 1,
+                length: word(number, 2),
+            };
+            let times = Times { store, slot };
+            writeln!(
+                f,
+                "number {n} at {position} on {path}{times}{}",
+                store.tree().slot(slot)
+            )?;
+        }
+        Ok(())
     }
-    if n == 0 {
-        say(out, b"/")?;
-    }
-    say_short(out, part(paths, 1024 * i, n))
 }
 
-// File number n, where it is open.
-fn say_open<W: Write>(
-    out: &mut W,
-    words: &[u64],
-    heads: &[u64],
-    times: &[i64],
-    paths: &[u8],
-    bytes: &[u8],
-    n: usize,
-) -> Result<()> {
-    if 32 <= n {
-        return Ok(());
-    }
-    let h = word(words, 5 + 3 * n);
-    if h == 0 {
-        return Ok(());
-    }
-    let k = (h - 1) as usize;
-    say(out, b"number ")?;
-    say_number(out, n as u64)?;
-    say(out, b" at ")?;
-    say_number(out, word(words, 6 + 3 * n))?;
-    say(out, b" on ")?;
-    say_cell(out, paths, n + 1, word(words, 7 + 3 * n) as usize)?;
-    say_times(out, times, k)?;
-    say_slot(out, heads, bytes, k)
-}
+// All of it.
+#[derive(Clone, Copy)]
+pub struct Shown<'a>(pub &'a Store);
 
-fn say_numbers<W: Write>(
-    out: &mut W,
-    words: &[u64],
-    heads: &[u64],
-    times: &[i64],
-    paths: &[u8],
-    bytes: &[u8],
-) -> Result<()> {
-    for n in 0..32 {
-        say_open(out, words, heads, times, paths, bytes, n)?;
+impl fmt::Display for Shown<'_> {
+    fn fmt<W: fmt::Write>(&self, f: &mut fmt::Formatter<W>) -> fmt::Result {
+        let store = self.0;
+        let tree = store.tree();
+        let current = Cell {
+            store,
+            cell: 0,
+            length: word(&store.words, HERE_AT),
+        };
+        let umask = Mode(word(&store.words, MASK_AT));
+        let entries = store.entries();
+        let names = tree.names_before(entries);
+        let contents = tree.bytes_from(0);
+        let slots = word(&store.words, EXTENT_AT);
+        write!(f, "{}{}", Entries(store), Numbers(store))?;
+        writeln!(f, "umask {umask}, current {current}")?;
+        writeln!(
+            f,
+            "entries {entries}, bytes {names} + {contents}, slots {slots}"
+        )
     }
-    Ok(())
-}
-
-// The bytes that all slots have.
-fn held(heads: &[u64], room: usize) -> usize {
-    let from = bytes_start(heads, room, 0);
-    if room < from {
-        return room;
-    }
-    room - from
-}
-
-pub fn say_store<W: Write>(
-    out: &mut W,
-    words: &[u64],
-    records: &[u64],
-    heads: &[u64],
-    times: &[i64],
-    paths: &[u8],
-    bytes: &[u8],
-) -> Result<()> {
-    let count = word(words, 2) as usize;
-    let slots = word(words, 101) as usize;
-    let used = front_words(heads, slots);
-    say_entries(out, records, used, times, bytes, count)?;
-    say_numbers(out, words, used, times, paths, bytes)?;
-    say(out, b"umask ")?;
-    say_mode(out, word(words, 3))?;
-    say(out, b", current ")?;
-    say_cell(out, paths, 0, word(words, 4) as usize)?;
-    say(out, b"\nentries ")?;
-    say_number(out, count as u64)?;
-    say(out, b", bytes ")?;
-    say_number(out, name_start(records, bytes.len(), count) as u64)?;
-    say(out, b" + ")?;
-    say_number(out, held(used, bytes.len()) as u64)?;
-    say(out, b", slots ")?;
-    say_number(out, slots as u64)?;
-    say(out, b"\n")
 }
