@@ -23,7 +23,7 @@ use Rattle.ask_find.specs.declared.Spot.{Spot}
 use Rattle.ask_find.specs.Paths.{slot_at, path_at}
 use Rattle.ask_find.specs.Spots.{At, Room, between, instead, Vacant, nothing, Looks, ChildIs}
 use Rattle.ask_find.proofs.Children.{dir-told}
-use Rattle.std.specs.Prelude.{None, Result, Ok, Err, IfSome}
+use Rattle.std.specs.Prelude.{Result, Ok, Err, IfSome}
 use Rattle.std.specs.Result.{result_ok, result_err}
 use Rattle.ask_find.proofs.Records.{path-rises}
 use Rattle.test_tried.specs.Tried.{Spotted, ChildOf}
@@ -56,7 +56,7 @@ spotted st l i h x n g e v = go v.room
 -- ---- what `look` answers of a name in the directory at a record
 
 pub looked : (st : Store) → Lawful st → (i o : ℕ) → i < count st → kind_at st (slot_at st i) ≡ 1 → (x : Name) → o ≡ name_total (take i st.records) → (r : Result Spot Gap)
-    → ChildIs (live st) st.bytes (record { at = i; off = o }) x None r → Looks st most_entries (state st).tree (path_at st i) x r
+    → ChildIs (live st) st.bytes (record { at = i; off = o }) x most_entries r → Looks st most_entries (state st).tree (path_at st i) x r
 looked st l i o h d x e r k = k st refl refl l (path_at st i) (state st).tree (at_record st i o h e) (nothing (omega (arith, l.counted, l.entry_limit.1)) refl) (dir-told st l i h d)
 
 -- its place, if it is missing
