@@ -66,9 +66,5 @@ pub fn take_open(words: &[u64], heads: &[u64], taken: &mut [u8; MOST_SLOTS]) -> 
 pub fn in_use(heads: &[u64]) -> usize
     ensures { result ≡ filled heads.now }
 {
-    let mut n = 0;
-    for h in heads {
-        n += usize::from(*h != 0);
-    }
-    n
+    heads.iter().map(|h| usize::from(*h != 0)).sum()
 }

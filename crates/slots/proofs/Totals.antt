@@ -1,6 +1,8 @@
 -- How many bytes the slots have: the sum is taken apart at a slot, so a change of one word changes one summand.
 -- Assumes nothing.
-use mathlib.Core.Path.{◌≡◌, sym, ap}
+use mathlib.Core.Path.{◌≡◌, refl, sym, ap, ◌∙◌}
+use Rattle.std.specs.List.{sum_by}
+use Rattle.std.proofs.lemmas.List.Sums.{sum_by-cons}
 use mathlib.Core.List.{List, [], ◌∷◌}
 use Prim.Native.Nat.{ℕ, zero, suc, ◌+◌, ◌≤◌, ◌<◌}
 use native.Mathlib.Numerals.{add-one}
@@ -9,6 +11,11 @@ use lib.ListN.{length, take, drop, get_or, set}
 use lib.Seq.{take-length}
 use Rattle.layout.specs.Fields.{len_of}
 use Rattle.layout.specs.Slots.{total}
+
+pub sum-total : (hs : List ℕ) → sum_by len_of hs ≡ total hs
+unfolding total
+sum-total [] = refl
+sum-total (h ∷ hs) = sum_by-cons len_of h hs ∙ ap (λ (n : ℕ). len_of h + n) (sum-total hs)
 
 pub total-set : (hs : List ℕ) (k h : ℕ) → k < length hs → total (set hs k h) + len_of (get_or hs k 0) ≡ total hs + len_of h
 unfolding total
@@ -37,10 +44,6 @@ take_total (x ∷ hs) (suc i) = let r = take_total hs i in omega arith
 -- those before a slot, its own, and those behind it
 pub total_at : (hs : List ℕ) (k : ℕ) → k < length hs → total (take k hs) + (len_of (get_or hs k 0) + total (drop (suc k) hs)) ≡ total hs
 total_at hs k l = sym (total-split hs k l)
-
--- a turn of the loop that adds them up
-pub total_more : (hs : List ℕ) (i h : ℕ) → i < length hs → h ≡ get_or hs i 0 → total (take (i + 1) hs) ≡ total (take i hs) + len_of h
-total_more hs i h l e = rw (e, add-one i) (total-take hs i l)
 
 -- what `sum_to` answers for all slots and for the first k, beside the whole
 pub sums : (hs : List ℕ) (k : ℕ) → k < length hs

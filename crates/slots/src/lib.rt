@@ -20,16 +20,11 @@ pub fn free_slot(heads: &[u64]) -> Option<usize>
 }
 
 // The bytes of the slots.
-#[tactic(auto, using(crate::proofs::Totals::total_more), unfolding(layout::specs::Slots::total))]
 pub fn total_of(heads: &[u64]) -> usize
     requires { total heads.now < 2 ^ 64 }
     ensures { result ≡ total heads.now }
 {
-    let mut t = 0;
-    for h in heads {
-        t += len_of(*h);
-    }
-    t
+    heads.iter().map(|h| len_of(*h)).sum()
 }
 
 // The bytes of the first k slots.
