@@ -13,8 +13,8 @@ ghost use Rattle.ask_entry.specs.Reads.{TellsKind, TellsStat, TellsContents, Tel
 use ask_find::Spot;
 use layout::kind::Kind;
 use layout::{
-    CELL_BYTES, FILE_NUMBERS, HERE_AT, HOLDER_AT, KEPT_AT, NUMBER_WORDS, POSITION_AT, len_of,
-    mode_of, slot_of,
+    ACCESSED_AT, CELL_BYTES, CHANGED_AT, CREATED_AT, FILE_NUMBERS, HERE_AT, HOLDER_AT, KEPT_AT,
+    MODIFIED_AT, NUMBER_WORDS, POSITION_AT, TIMES, len_of, mode_of, slot_of,
 };
 
 // What the metadata of an entry shows.
@@ -75,15 +75,15 @@ fn slot_stat(heads: &[u64], times: &[i64], k: usize) -> Stat
     ensures { stat_from result ≡ stat_at (lent [] [] heads.now times.now [] []) k }
 {
     let h = at(heads, k, 0);
-    let t = 4 * k;
+    let t = TIMES * k;
     Stat {
         kind: kind_in(h),
         size: file_size(h),
         mode: mode_of(h),
-        accessed: at(times, t, 0),
-        changed: at(times, t + 1, 0),
-        created: at(times, t + 2, 0),
-        modified: at(times, t + 3, 0),
+        accessed: at(times, t + ACCESSED_AT, 0),
+        changed: at(times, t + CHANGED_AT, 0),
+        created: at(times, t + CREATED_AT, 0),
+        modified: at(times, t + MODIFIED_AT, 0),
     }
 }
 

@@ -4,10 +4,7 @@
 ghost use Rattle.std.specs.Prelude.{◌≡◌, ℕ, ◌-◌, ◌≤◌, ◌<◌, length, get_or};
 ghost use Rattle.edit_room.specs.Extents.{Reserved, Released, SomeRoomy, OnSlots};
 
-use layout::{EXTENT_AT, FILE_NUMBERS, MOST_AT};
-
-// How many slots a store may have beyond its entry limit.
-const BEYOND: u64 = FILE_NUMBERS as u64;
+use layout::{BEYOND, EXTENT_AT, MOST_AT};
 
 // One slot more, where the limits allow it: it is free. Where they do not, a slot before it is free while an entry may be added.
 pub fn reserve(words: &mut [u64], heads: &mut [u64])

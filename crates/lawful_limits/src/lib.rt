@@ -9,12 +9,9 @@ ghost use Rattle.lawful_limits.specs.Limits.{Limits, lengths_fit};
 
 use layout::slices::Slices;
 use layout::{
-    COUNT_AT, EXTENT_AT, FILE_NUMBERS, LEAST_BYTES, MASK_AT, MODE_UNIT, MOST_AT, MOST_BYTES,
-    MOST_ENTRIES, PATHS_BYTES, ROOM_AT, WORD_COUNT,
+    BEYOND, COUNT_AT, EXTENT_AT, FILE_NUMBERS, LEAST_BYTES, MASK_AT, MODE_UNIT, MOST_AT,
+    MOST_BYTES, MOST_ENTRIES, PATHS_BYTES, ROOM_AT, TIMES, WORD_COUNT,
 };
-
-// How many slots a store may have beyond its entry limit.
-const BEYOND: u64 = FILE_NUMBERS as u64;
 
 // Whether the entry limit, the byte limit, the number of entries, the umask and the number of slots are in range.
 pub fn limits_ok(words: &[u64]) -> bool
@@ -38,7 +35,7 @@ pub fn lengths_fit(s: Slices, most: usize) -> bool
 {
     most <= s.records.len()
         && most + FILE_NUMBERS <= s.heads.len()
-        && 4 * (most + FILE_NUMBERS) <= s.times.len()
+        && TIMES * (most + FILE_NUMBERS) <= s.times.len()
         && PATHS_BYTES <= s.paths.len()
 }
 

@@ -16,8 +16,11 @@ pub const LEAST_BYTES: u64 = 256;
 
 pub const MOST_BYTES: u64 = 1048576;
 
-// How many file numbers there are; a store has room for as many removed files beyond the entry limit.
+// How many file numbers there are.
 pub const FILE_NUMBERS: usize = 32;
+
+// How many slots a store may have beyond its entry limit: as many removed files may be open as there are file numbers.
+pub const BEYOND: u64 = FILE_NUMBERS as u64;
 
 // The slots of the greatest entry limit.
 pub const MOST_SLOTS: usize = MOST_ENTRIES as usize + FILE_NUMBERS;
@@ -49,6 +52,17 @@ pub const WORD_COUNT: usize = EXTENT_AT + 1;
 pub const CELL_BYTES: usize = 1024;
 
 pub const PATHS_BYTES: usize = CELL_BYTES * (1 + FILE_NUMBERS);
+
+// The times of a slot, and which is which.
+pub const TIMES: usize = 4;
+
+pub const ACCESSED_AT: usize = 0;
+
+pub const CHANGED_AT: usize = 1;
+
+pub const CREATED_AT: usize = 2;
+
+pub const MODIFIED_AT: usize = 3;
 
 // The fields of a record's word.
 pub const DEPTHS: u64 = 65536;

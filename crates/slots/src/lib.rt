@@ -8,7 +8,7 @@ ghost use Rattle.slots.specs.Free.{free_from};
 ghost use Rattle.slots.specs.Times.{times_set};
 ghost use Rattle.slots.specs.Put.{fitted, swept, swept_c, Put, Freed, Step};
 
-use layout::len_of;
+use layout::{TIMES, len_of};
 
 pub mod marks;
 
@@ -123,9 +123,7 @@ pub fn put_times(times: &mut [i64], slot: usize, a: i64, t: i64)
     requires { 4 * slot + 3 < length times.old }
     ensures { times.new ≡ times_set times.old slot a t }
 {
-    let i = 4 * slot;
-    times[i] = a;
-    times[i + 1] = a;
-    times[i + 2] = a;
-    times[i + 3] = t;
+    let i = TIMES * slot;
+    let all = [a, a, a, t];
+    times[i..i + TIMES].copy_from_slice(&all);
 }
