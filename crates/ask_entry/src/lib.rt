@@ -124,6 +124,7 @@ pub fn entry_contents<'a>(records: &[u64], heads: &[u64], bytes: &'a [u8], spot:
 }
 
 // The word at i of the three of number n; 0 where there is no such number.
+// kept: 0 is the layout's word of a closed number, so an Option would be taken apart to be put together again
 fn number_word(words: &[u64], n: usize, i: usize) -> u64
     requires { i < 8 }
     ensures { result ≡ cond (ltb n file_numbers) (get_or words.now (i + 3 * n) 0) 0 }

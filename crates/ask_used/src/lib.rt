@@ -86,7 +86,7 @@ fn tree_bytes(records: &[u64], heads: &[u64]) -> usize
 {
     let mut k = 0;
     let mut s = 0;
-    // kept: as in `dir_total`; that a directory is the sum over its entries, and an entry over its directory, is 01's rule.
+    // kept: as in `dir_total`, a turn passes an entry with all below it.
     while k < records.len() {
         let e = entry_total(records, heads, k);
         s += e.bytes;
@@ -153,7 +153,7 @@ pub fn links_in(records: &[u64], heads: &[u64]) -> usize
 
 // What an entry takes up: the length of its name, that of a file's contents or a link's target, and whether a file number stands on
 // it. A file that loses its name gives back the name, and the contents where no number stands on it.
-// kept: held and size are both asked for, each by itself: the size of a file that is open too.
+// kept: size and held have each a promise (WeightIs), also of a file that is open, beside what they free together
 #[derive(Drop)]
 pub struct Weight {
     pub name: usize,

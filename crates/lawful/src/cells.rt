@@ -11,6 +11,7 @@ use path::pieces::{Piece, kind_of};
 use text::text_ok;
 
 // The greatest length of a kept path.
+// kept: a cast with a name
 const LONGEST: u64 = CELL_BYTES as u64;
 
 // Whether what stands between two slashes is a name.

@@ -14,6 +14,7 @@ use path::lengths::lengths_ok;
 use text::text_ok;
 
 // The bytes of the names.
+// kept: this and bytes_total, which add the bounds that the test needs and others do not
 pub fn names_total(recs: &[u64]) -> usize
     requires { length recs.now ≤ most_entries }
     ensures { (result ≡ name_total recs.now) × (result ≤ most_bytes) }

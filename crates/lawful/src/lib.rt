@@ -10,6 +10,7 @@ ghost use Rattle.lawful.specs.Parts.{Parts};
 use layout::slices::Slices;
 use layout::{COUNT_AT, EXTENT_AT, PATHS_BYTES, ROOM_AT, WORD_COUNT};
 
+// kept: each part of the test takes the slices that it reads, with their facts: a struct for each such set is longer than the facts
 pub mod cells;
 pub mod held;
 pub mod sizes;

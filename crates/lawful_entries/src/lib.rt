@@ -6,6 +6,7 @@ ghost use Rattle.layout.specs.Rows.{rows, name_total};
 ghost use Rattle.layout.specs.Lawful.{rows_ok};
 ghost use Rattle.lawful_entries.specs.Fits.{kind_in};
 
+// kept: records and bytes side by side: of a struct over both each clause would take them out again, for their rows
 mod looks;
 mod rising;
 mod span;

@@ -5,10 +5,11 @@ ghost use Rattle.lawful_entries.specs.Fits.{name_at, Within};
 
 use layout::NAME_LENGTHS;
 
+// kept: a cast with a name
 const LENGTHS: usize = NAME_LENGTHS as usize;
 
 // 256 times where the name begins, and its length.
-// kept: one number; two fields make the array of them twice as long to clear, and the test of 511 entries a fifth slower
+// kept: one number; with two fields, twice as long to clear, the test of 511 entries is a fifth slower, and its goal is 10 ns an entry (docs/BENCH.md)
 #[derive(Clone, Copy)]
 pub struct Span(u32);
 

@@ -13,6 +13,7 @@ use layout::{MOST_ENTRIES, depth_of, nlen_of, slot_of};
 use path::pieces::{self, Piece};
 
 // A path has fewer names than there are entries.
+// kept: a cast with a name
 const MOST_NAMES: usize = MOST_ENTRIES as usize;
 
 // Whether a name stands right behind an entry of that path, which is or is not a directory.
@@ -46,6 +47,7 @@ fn walk_below(recs: &[u64], heads: &[u64], bytes: &[u8]) -> bool
     requires { (length recs.now < most_entries) × (name_total recs.now ≤ length bytes.now) × (length bytes.now ≤ most_bytes) }
     ensures { result ≡ walk_fits (kind_in heads.now) (length heads.now) [] true (rows recs.now bytes.now) }
 {
+    // kept: an array with the depth beside it, since there is no heap for a Vec
     let mut last = [Span::EMPTY; MOST_NAMES];
     let mut d = 0;
     let mut dir = true;

@@ -19,6 +19,7 @@ pub enum Kind {
 }
 
 impl Kind {
+    // kept: a method and no From, since `Kind::Link.code()` is plainer than `u64::from(Kind::Link)`
     pub fn code(self) -> u64
         ensures { result ≡ code_of self }
     {

@@ -1,5 +1,6 @@
 #![tactic(auto)]
 // The numbers of the layout, as specs/Numbers.antt has them, and the fields of the words of a store.
+// kept: a tree as records with depths, and parallel arrays: the memory is lent and fixed, and names have no places of their own
 ghost use Rattle.std.specs.Prelude.{◌≡◌, ◌<◌, ◌≤◌, length};
 ghost use Rattle.layout.specs.Numbers.{most_entries, depths, name_lengths, slot_numbers, lengths, kinds, holder_at};
 ghost use Rattle.layout.specs.Holders.{slot_held};
@@ -140,6 +141,7 @@ pub fn slot_held(words: &[u64], n: usize) -> Option<usize>
 }
 
 // The word of a slot.
+// kept: the kind as a number, since a Kind would be a narrower type of a public function
 pub fn head_word(n: usize, k: u64, m: u32) -> u64
     requires { (n < lengths) × (k < kinds) }
     ensures { result ≡ head_word n k m }

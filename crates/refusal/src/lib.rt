@@ -31,6 +31,7 @@ pub enum Refusal {
 }
 
 impl Refusal {
+    // kept: a method and no From, since `e.number()` is plainer than `u32::from(e)`
     pub fn number(self) -> u32
         ensures { result ≡ number_of self }
     {
@@ -48,6 +49,7 @@ impl From<TooLong> for Refusal {
 }
 
 // What a call answers: 0, or the number of the refusal.
+// kept: C is answered numbers, and no From is allowed here, since both types are of other crates
 pub fn answer(r: Result<(), Refusal>) -> u32
     ensures { result ≡ answered r }
 {

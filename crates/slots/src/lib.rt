@@ -1,5 +1,6 @@
 #![tactic(auto)]
 // The words of the slots, their times, and their bytes: these stand at the end of the byte storage, one slot behind the other.
+// kept: words and bytes are lent side by side: a struct of the two would be taken apart at each call
 ghost use Rattle.std.specs.Prelude.{◌≡◌, ◌++◌, [], ◌+◌, ◌*◌, ◌-◌, ◌^◌, ◌<◌, ◌≤◌, length, take, drop, get_or, set, replicate};
 ghost use Rattle.layout.specs.Numbers.{lengths};
 ghost use Rattle.layout.specs.Fields.{len_of};
@@ -111,6 +112,7 @@ pub fn sweep(heads: &mut [u64], bytes: &mut [u8], marks: &[u8])
 {
     let mut src = bytes.len();
     let mut dst = bytes.len();
+    // kept: by index, since the clause of a step names its slot by number
     for k in (0..heads.len()).rev() {
         let len = len_of(heads[k]);
         dst = sweep_step(heads, bytes, k, marks[k], src, dst);

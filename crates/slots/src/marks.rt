@@ -1,4 +1,6 @@
 // Who uses a slot. Marks: for each slot 1 for the record that names it, and 2 more where a file number stands on it.
+// kept: numbers and not bools, since mark_records and mark_numbers promise which of the two a mark tells
+// kept: slices with their facts one by one, since a struct of them would be built anew for each of three callers
 ghost use Rattle.std.specs.Prelude.{cond, [], ◌≡◌, ℕ, ◌+◌, ◌-◌, ◌≤◌, ◌<◌, length, take, get_or};
 ghost use Rattle.layout.specs.Numbers.{extent_at, file_numbers, most_slots, word_count};
 ghost use Rattle.layout.specs.Store.{lent};

@@ -15,6 +15,7 @@ use layout::{COUNT_AT, MOST_AT, ROOM_AT};
 use refusal::Refusal;
 
 // What an entry takes up: the length of its name, and the bytes that go with it beside the name if it leaves the tree.
+// kept: beside ask_used::Weight, whose size and held have promises of their own
 #[derive(Drop)]
 pub struct Weight {
     pub name: usize,
