@@ -1,2 +1,3 @@
+pub mod Left
 pub mod Measure
 pub mod Plain

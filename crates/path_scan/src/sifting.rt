@@ -1,36 +1,42 @@
 // The names that a text keeps once its `..` have dropped the names before them, read from the end.
-ghost use Rattle.std.specs.Prelude.{◌≡◌, ◌+◌, ◌≤◌, length, take};
+ghost use Rattle.std.specs.Prelude.{◌≡◌, ◌+◌, ◌≤◌, length, take, Some};
 ghost use Rattle.std.specs.Iterator.{at_most};
-ghost use Rattle.path.specs.Answer.{LastIs, NextIs};
+ghost use Rattle.path.specs.Answer.{LastIs};
 ghost use Rattle.path.specs.Backward.{drop_n};
 ghost use Rattle.path.specs.Path.{body, names};
+ghost use Rattle.path_scan.specs.Left.{rest, FrontOf, ReadsOn};
 
 use path::pieces::{Piece, kind_of, piece_start};
+
+// What stands in front of a piece that begins at `start` and of the slash before it; None: the piece is the first.
+fn before(text: &[u8], start: usize) -> Option<&[u8]>
+    requires { start ≤ length text.now }
+    ensures { (rest result ≡ start) × FrontOf text.now result }
+{
+    text[..start].split_last().map(|(_, front)| front)
+}
 
 // The names that a text keeps, the last first: where each begins and ends.
 #[derive(Drop)]
 pub struct KeptNames<'a> {
-    text: &'a [u8],
+    // The front of the text that is left to read.
+    left: Option<&'a [u8]>,
     // Whether `..` drops a name.
     strike: bool,
-    // The pieces of text[..rest - 1] are left to read; 0: none.
-    rest: usize,
     // How many names are still to drop.
     pub skip: usize,
-    ghost fits: { rest ≤ length text.now + 1 },
-    ghost few: { skip + rest ≤ 18446744073709551616 },
+    ghost few: { skip + rest left ≤ 18446744073709551616 },
 }
 
 impl<'a> KeptNames<'a> {
     // What stands behind the text drops `behind` names.
     pub fn new(text: &'a [u8], strike: bool, behind: usize) -> Self
         requires { behind ≤ 9223372036854775808 }
-        ensures { (result.text.now ≡ text.now) × (result.strike ≡ strike) × (result.rest ≡ length text.now + 1) × (result.skip ≡ behind) }
+        ensures { (result.left ≡ Some text.entry) × (result.strike ≡ strike) × (result.skip ≡ behind) }
     {
         Self {
-            text,
+            left: Some(text),
             strike,
-            rest: text.len() + 1,
             skip: behind,
         }
     }
@@ -39,22 +45,21 @@ impl<'a> KeptNames<'a> {
 impl<'a> Iterator for KeptNames<'a> {
     type Item = (usize, usize);
 
-    ghost next_gives = { λ s r t. (t.text.now ≡ s.text.now) × (t.strike ≡ s.strike) × NextIs s.strike s.text.now s.rest s.skip r t.rest t.skip };
+    ghost next_gives = { λ s r t. (t.strike ≡ s.strike) × ReadsOn s.strike s.left s.skip r t.left t.skip };
 
-    ghost remaining = { λ s. at_most s.rest };
+    ghost remaining = { λ s. at_most (rest s.left) };
 
     #[inline(always)]
     fn next(&mut self) -> Option<(usize, usize)> {
-        while self.rest > 0 {
-            let end = self.rest - 1;
-            let start = piece_start(self.text, end);
-            let kind = kind_of(&self.text[start..end], self.strike);
-            self.rest = start;
+        while let Some(left) = self.left {
+            let start = piece_start(left, left.len());
+            let kind = kind_of(&left[start..], self.strike);
+            self.left = before(left, start);
             match kind {
                 Piece::Vanishes => {}
                 Piece::Drops => self.skip += 1,
                 Piece::Name if self.skip > 0 => self.skip -= 1,
-                Piece::Name => return Some((start, end)),
+                Piece::Name => return Some((start, left.len())),
             }
         }
         None
