@@ -67,6 +67,7 @@ pub fn word(s: &[u8], i: usize) -> u64
 }
 
 // Four bytes from i on.
+// kept: beside `word`, since a trait for two bodies of one line would be longer than both.
 fn half(s: &[u8], i: usize) -> u32
     requires { i + 4 ≤ length s.now }
     ensures { result ≡ number 4 i s.now }

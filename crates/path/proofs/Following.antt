@@ -17,8 +17,8 @@ use Rattle.path.specs.Backward.{Sifted, kind_of, mk, sift_one, sift, sifted, fro
 use Rattle.path.specs.Answer.{AllNames, Clean, EndIs, PieceIs, PlainIs}
 use Rattle.path.specs.declared.pieces.Piece.{Piece}
 use Rattle.path.specs.declared.pieces.Piece.TheVariants as kind
-use Rattle.std.specs.Prelude.{Option, Some}
-use Rattle.path.proofs.Cutting.{first, front-part, part-empty, part_length, piece_is}
+use Rattle.std.specs.Prelude.{Some}
+use Rattle.path.proofs.Cutting.{first, front-part, part-empty, piece_is}
 use Rattle.path.proofs.Dots.{kind_none, kind_other}
 use Rattle.path.proofs.Dropping.{body-pieces}
 use Rattle.path.proofs.Every.{Every}
@@ -119,9 +119,6 @@ end-slash s l q =
           rw p ((read_none strike s 0).same ∙ (pass-vanished strike s (length s + 1) (length s) (omega arith) piece (length s + 1) 0 0 (pass_none strike s (length s + 1) 0) k).same []),
     )
 
--- the end of a text
-pub ruleset ends = (end_whole, end-slash)
-
 -- a slash in front, or none
 module _ (s : Bytes) (e : ℕ) (end : EndIs s e) (strike : Bool) where
   between : (a : ℕ) → a < e → (0 < a → get_or s (a - 1) 0 ≡ 47) → AllNames (part a e s) → sifted strike 0 s ≡ sift strike (front a s) (mk 0 (pieces (part a e s)))
@@ -145,16 +142,6 @@ module _ (s : Bytes) (e : ℕ) (end : EndIs s e) (strike : Bool) where
 module _ (s : Bytes) (a e : ℕ) (strike : Bool) (k : ℕ) (w : PlainIs (Some (a, e)) strike k s) where
   pub plain_body : body (sifted strike k s).kept ≡ 47 ∷ part a e s
   plain_body = ap (λ (z : Sifted). body z.kept) w.2 ∙ body-pieces (part a e s)
-
-  pub plain-length : e - a + 1 ≡ length (body (sifted strike k s).kept)
-  plain-length = rw plain_body (omega (arith, part_length a e s w.1, w.0))
-
-pub plain-told : {r x : Option (ℕ × ℕ)} (strike : Bool) (k : ℕ) (s : Bytes) → r ≡ x → PlainIs r strike k s → PlainIs x strike k s
-plain-told strike k s e w = subst (λ (y : Option (ℕ × ℕ)). PlainIs y strike k s) e w
-
--- nothing behind the text drops a name
-pub plain-behind : (r : Option (ℕ × ℕ)) (strike : Bool) (k : ℕ) (s : Bytes) → k ≡ 0 → PlainIs r strike 0 s → PlainIs r strike k s
-plain-behind r strike k s e w = subst (λ (j : ℕ). PlainIs r strike j s) (sym e) w
 
 -- the text behind its slash, stored where it ends
 pub plain-stored : (out after t u : Bytes) (end at : ℕ) → 47 ∷ t ≡ u → at ≡ end - length u → length u ≤ end

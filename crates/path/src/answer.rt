@@ -6,6 +6,7 @@ pub struct TooLong;
 
 // Where the last name of a path once absolute stands: from the first place to the second of the path or of the current
 // directory.
+// kept: two places of one kind, each in a text of its own, so neither an Option nor a Result would say which text it is.
 #[derive(Clone, Copy, PartialEq, Eq)]
 pub enum Place {
     InPath(usize, usize),

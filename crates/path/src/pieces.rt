@@ -12,6 +12,7 @@ pub enum Piece {
 }
 
 // `strike`: whether `..` drops a name or is one.
+// kept: it is one guard of one match; two functions would be the same but for that arm.
 #[tactic(auto, using(crate::proofs::Dots::kinds))]
 pub fn kind_of(n: &[u8], strike: bool) -> Piece
     ensures { result ≡ kind_of strike n.now }

@@ -36,6 +36,7 @@ fn form_mixed(out: &mut [u8], path: &[u8], strike: bool) -> Result<usize, TooLon
 }
 
 // What the path keeps. A plain one, as most are, is copied at once.
+// kept: `strike` is true or false at the two callers, and goes on to the guard of `path::pieces::kind_of`.
 fn form(out: &mut [u8], path: &[u8], strike: bool) -> Result<usize, TooLong>
     requires { 1024 ≤ length out.old }
     ensures { Forms (body (sifted strike 0 path.now).kept) out.old out.new result }

@@ -23,6 +23,7 @@ fn dir_kept(dir: &[u8], target: &[u8], skip: usize) -> usize
 
 // out[..dir] is the link's directory and out[rest..len] what stands behind the link's name; of a last link, rest is len.
 // The target seen from there, and then the rest, take their place.
+// kept: dir, rest and len beside the buffer, since the path is formed in place: memory is fixed, and there is no second buffer.
 pub fn follow(
     out: &mut [u8],
     dir: usize,
