@@ -9,7 +9,7 @@ use lib.ListN.{length, take, drop, get_or}
 use Rattle.layout.specs.Fields.{nlen_of}
 use Rattle.name_order.specs.Order.{order_of}
 use Rattle.ask_find.specs.declared.Spot.{Spot}
-use Rattle.ask_find.specs.Finds.{spot, scan}
+use Rattle.ask_find.specs.Finds.{spot, scan, Within}
 use Rattle.ask_find.proofs.Scan.{record-met, scan-room, scan-end, scan_out, scan-deeper, scan-less, scan_same, scan_more}
 use Rattle.ask_find.proofs.find_from.Goals.{In-loop-w, After-behind-next, then-t-d-eq1+in-Less, else-t-d-eq1}
 use Rattle.ask_find.proofs.find_from.Goals as goal
@@ -18,6 +18,11 @@ use Rattle.ask_find.proofs.find_from.Goals as goal
 met : (c : In-loop-w) → let ws = c.args.records.now in let a = c.args.start.at in let l = c.loop-w in
     (l.spot.at < length ws) × (get_or (take (length ws - a) (drop a ws)) l.w-index 0 ≡ get_or ws l.spot.at 0)
 met c = let l = c.loop-w in record-met c.args.records.now c.args.start.at l.w-index l.spot.at l.invariant.0 (omega arith)
+
+-- its name stands within the bytes, and so do those behind it
+room : (c : In-loop-w) → let l = c.loop-w in
+    Within c.args.records.now c.args.bytes.now (spot (suc l.spot.at) (l.spot.off + nlen_of (get_or c.args.records.now l.spot.at 0)))
+room c = let l = c.loop-w in scan-room c.args.records.now c.args.bytes.now l.spot.at l.spot.off (met c).0 l.invariant.1
 
 -- where the next begins
 next : (c : After-behind-next) → c.behind-next.result.off ≡ c.loop-w.spot.off + nlen_of (get_or c.args.records.now c.loop-w.spot.at 0)
@@ -39,15 +44,13 @@ returns-then-t-d c =
 
 pub behind-next-requires : goal.behind-next-requires
 behind-next-requires c =
-    let l = c.loop-w in
-    let m = met (goal.at.behind-next-requires c).In-loop-w in
-    rw m.1 (omega (arith, m.0), omega (arith, scan-room c.args.records.now c.args.bytes.now l.spot.at l.spot.off m.0 l.invariant.1))
+    let i = (goal.at.behind-next-requires c).In-loop-w in
+    rw (met i).1 (omega (arith, (met i).0), omega (arith, room i))
 
 pub slice_bounds-compare-end : goal.slice_bounds-compare-end
 slice_bounds-compare-end c =
-    let l = c.loop-w in
-    let m = met (goal.at.slice_bounds-compare-end c).In-loop-w in
-    omega (arith, next (goal.at.slice_bounds-compare-end c).After-behind-next, scan-room c.args.records.now c.args.bytes.now l.spot.at l.spot.off m.0 l.invariant.1)
+    let i = (goal.at.slice_bounds-compare-end c).In-loop-w in
+    omega (arith, next (goal.at.slice_bounds-compare-end c).After-behind-next, room i)
 
 pub returns-in-Equal : goal.returns-in-Equal
 returns-in-Equal c =
@@ -74,11 +77,12 @@ loop-w-preserved c =
     let e = next (goal.at.loop-w-preserved c).After-behind-next in
     let n = spot (suc l.spot.at) (l.spot.off + nlen_of (get_or a.records.now l.spot.at 0)) in
     let b : c.behind-next.result ≡ n = rw (m.1, add-one l.spot.at) at c.behind-next.ensures in
-    let on : (c.if-t-d-eq1.spot ≡ c.behind-next.result) × (scan a.records.now a.bytes.now a.d a.name.now l.spot ≡ scan a.records.now a.bytes.now a.d a.name.now n) = elim c.if-t-d-eq1.branch [
+    let on : (c.if-t-d-eq1.spot ≡ c.behind-next.result)
+    × (scan a.records.now a.bytes.now a.d a.name.now l.spot ≡ scan a.records.now a.bytes.now a.d a.name.now n) = elim c.if-t-d-eq1.branch [
       | then-t-d-eq1+in-Less v ↦ (v.spot-is, scan-less a.records.now a.bytes.now l.spot.at l.spot.off m.0 a.d a.name.now w.1 (omega (arith, m.1, v.if-t-d-eq1.true)) (named a.bytes.now a.name.now l.spot.off _ _ _ e v.compare.ensures ∙ v.in-Less.is))
       | else-t-d-eq1 v ↦ (v.spot-is, scan-deeper a.records.now a.bytes.now l.spot.at l.spot.off m.0 a.d a.name.now w.1 (omega (arith, m.1)) (λ z. v.if-t-d-eq1.false (omega (arith, m.1, z))))
     ] in
-    rw (on.0, b) (omega (arith, w.0), scan-room a.records.now a.bytes.now l.spot.at l.spot.off m.0 w.1, w.2 ∙ on.1)
+    rw (on.0, b) (omega (arith, w.0), room (goal.at.loop-w-preserved c).In-loop-w, w.2 ∙ on.1)
 
 pub returns : goal.returns
 returns c =
