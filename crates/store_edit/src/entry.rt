@@ -1,4 +1,5 @@
 // An entry put into the tree or taken out of it.
+// kept: insert, make_root and moving::nest each reserve and release: of a step handed over as a closure no proof tells what it writes.
 ghost use Rattle.std.specs.Prelude.{T, [], ◌∷◌, ◌++◌};
 ghost use Rattle.path.specs.Path.{Name};
 ghost use Rattle.model.specs.Tree.{Path};
@@ -69,7 +70,7 @@ pub fn make_root(l: Entries, heads: &mut [u64], new: Fresh) -> Spot
 }
 
 // The entry at the spot goes, with all below it; a file that a number stands on keeps its bytes.
-// kept: the slices are lent one by one, since a removal touches no times.
+// kept: the slices are lent one by one, since a removal touches no times, and Entries would ask them of the caller.
 pub fn remove(
     words: &mut [u64],
     records: &mut [u64],
