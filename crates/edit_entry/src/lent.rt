@@ -1,7 +1,6 @@
 // The slices that an edit of entries writes, but for the words of the slots.
 
-// The words of the slots are lent beside these: a call hands on those so far, and of a part of a slice that is lent in a struct no proof
-// knows how it is left.
+// kept: the words of the slots are lent beside these: a call hands on those so far, and how a part of a lent field is left no proof knows.
 #[derive(Drop)]
 pub struct Entries<'a> {
     pub words: &'a mut [u64],

@@ -12,6 +12,7 @@ use layout::{COUNT_AT, MOST_SLOTS};
 use std::ops::Range;
 
 // Frees the slot that no record names any more, where no file number stands on it.
+// kept: the words as a slice of a known length: as an array its caller would have to turn its slice into one.
 fn free_one(words: &[u64], heads: &mut [u64], bytes: &mut [u8], s: usize)
     requires { (length words.now ≡ word_count) × (s < length heads.old) × (length heads.old ≤ most_slots)
         × (total heads.old ≤ length bytes.old) }

@@ -1,5 +1,6 @@
 #![tactic(auto)]
 // The file numbers, the current directory and the umask of a store.
+// kept: the words as a slice of a known length: as a `&mut [u64; WORD_COUNT]` each caller would have to turn its slice into an array.
 ghost use Rattle.std.specs.Prelude.{◌≡◌, ◌<◌, T, length};
 ghost use Rattle.path.specs.Path.{names};
 ghost use Rattle.model.specs.Prog.{umask, seek, go, opens, close};
