@@ -51,6 +51,7 @@ pub fn close_entries(records: &mut [u64], bytes: &mut [u8], block: Range<usize>)
 }
 
 // Adds up to the depth of the entries of the block, and takes down off it. (The depth alone is changed, so that no word can overflow.)
+// kept: the depth as a part of the word, and not by depth_of, since it is not read alone: the same part is taken off and put back.
 fn lift_words(records: &mut [u64], block: Range<usize>, up: u64, down: u64)
     requires { (block.start ≤ block.end) × (block.end ≤ length records.old) × (up ≤ depths)
         × Liftables records.old block.start block.end up down }
