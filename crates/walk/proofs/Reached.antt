@@ -28,7 +28,7 @@ use Rattle.ask_find.specs.declared.Gap.{Gap}
 use Rattle.ask_find.specs.declared.Spot.{Spot}
 use Rattle.ask_find.specs.Spots.{Vacant}
 use Rattle.refusal.specs.declared.Refusal.TheVariants.{NotDirectory}
-use Rattle.store.specs.Shows.{says, There}
+use Rattle.store.specs.Shows.{says, Stands, There}
 use Rattle.walk.specs.declared.End.TheVariants.{Found, Missing, LastLink}
 use Rattle.walk.specs.declared.Met.TheVariants.{Ends, MidLink}
 use Rattle.walk.specs.Meets.{Plain, LinkAt, the_root, a_name, Meets}
@@ -99,9 +99,13 @@ module _ {st : Store} {s : State} {w : World} {text : Bytes} where
     abbrev kind : Option Kind
     kind = answer (kind? r.here) w
 
-    -- the kind in the state is the one in the world
-    pub kind-is : (m : Kind) → says (kind? r.here) s ≡ some m → kind ≡ some m
-    kind-is m z = r.there.kind ∙ z
+    -- what is told of the kind at the spot in the state
+    abbrev Told : Kind → Type 0
+    Told m = (p : Path) → Stands st spot p → says (kind? p) s ≡ some m
+
+    -- is so in the world
+    pub kind-told : (m : Kind) → Told m → kind ≡ some m
+    kind-told m f = r.there.kind ∙ f r.here r.there.at
 
     linked : kind ≡ some a_link → LinkAt st s w text spot u e
     linked k =
@@ -125,12 +129,15 @@ module _ {st : Store} {s : State} {w : World} {text : Bytes} where
           r.same ∙ ap (λ (x : List Name). run (until_symlink r.here x) w) (cut-end text e r.here r.rest r.cut l) ∙ until_end w r.here k z
           ∙ ap (λ (d : Path). done (ends (arrived d (some k))) w) (sym all)
 
-      pub at-last-link : {h : ℕ} → kind ≡ some a_link → Meets st s w h text (Ok (Ends (LastLink spot u)))
+      pub at-last-link : {h : ℕ} → Told a_link → Meets st s w h text (Ok (Ends (LastLink spot u)))
       unfolding arrived
-      at-last-link k = record { answer = at-end a_link k; place = subst (LinkAt st s w text spot u) (omega (arith, r.fits, l)) (linked k) }
+      at-last-link f =
+          let k = kind-told a_link f in
+          record { answer = at-end a_link k; place = subst (LinkAt st s w text spot u) (omega (arith, r.fits, l)) (linked k) }
 
-      pub at_entry : {h : ℕ} (k : own.Kind) → (k ≡ is.Link → ⊥) → kind ≡ some (kind_from k) → Meets st s w h text (Ok (Ends (Found spot k)))
-      at_entry k g z =
+      pub at_entry : {h : ℕ} (k : own.Kind) → (k ≡ is.Link → ⊥) → Told (kind_from k) → Meets st s w h text (Ok (Ends (Found spot k)))
+      at_entry k g f =
+          let z = kind-told (kind_from k) f in
           record {
             answer = at-end (kind_from k) z ∙ ap (λ (x : End). done (ends x) w) (found-kind (names text) k g);
             place = (subst (λ (d : Path). There st s w d spot) (sym all) r.there, ap (λ (d : Path). answer (kind? d) w) all ∙ z);
@@ -146,13 +153,14 @@ module _ {st : Store} {s : State} {w : World} {text : Bytes} where
       first-name (n ∷ m) z = (n, m, z)
 
       -- at what is no directory
-      pub at-file : {h : ℕ} → kind ≡ some aFile → Meets st s w h text (Err NotDirectory)
-      at-file k =
+      pub at-file : {h : ℕ} → Told aFile → Meets st s w h text (Err NotDirectory)
+      at-file t =
           let f = first-name r.rest refl in
-          record { answer = r.same ∙ ap (λ (x : List Name). run (until_symlink r.here x) w) f.2 ∙ until-file w r.here f.0 f.1 k; place = tt }
+          record { answer = r.same ∙ ap (λ (x : List Name). run (until_symlink r.here x) w) f.2 ∙ until-file w r.here f.0 f.1 (kind-told aFile t); place = tt }
 
-      pub at-link : {h : ℕ} → kind ≡ some a_link → Meets st s w h text (Ok (MidLink (record { spot = spot; dir = u; rest = e })))
-      at-link k =
+      pub at-link : {h : ℕ} → Told a_link → Meets st s w h text (Ok (MidLink (record { spot = spot; dir = u; rest = e })))
+      at-link t =
+          let k = kind-told a_link t in
           let f = first-name r.rest refl in
           record {
             answer = r.same ∙ ap (λ (x : List Name). run (until_symlink r.here x) w) f.2 ∙ until-link w r.here f.0 f.1 k

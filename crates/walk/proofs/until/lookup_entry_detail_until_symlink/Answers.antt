@@ -8,14 +8,13 @@ use mathlib.Core.Path.{◌≡◌, ap, ◌∙◌}
 use Prim.Native.Nat.{ℕ, ◌+◌, ◌-◌}
 use native.Mathlib.Omega.{arith}
 use lib.ListN.{get_or}
-use Rattle.model.specs.Prog.{World, a_dir, aFile, a_link, kind?, answer}
+use Rattle.model.specs.Prog.{World, a_dir, kind?, answer}
 use Rattle.model.specs.Calls.States.{State}
-use Rattle.layout.specs.Kinds.{kind_from}
 use Rattle.layout.specs.Store.{Store}
 use Rattle.layout.specs.Lent.{with_tree}
 use Rattle.ask_find.specs.Spots.{hidden_at}
 use Rattle.store.specs.Shows.{Shows, Asked}
-use Rattle.walk.proofs.Reached.{Reached, kind-is, no_root, at-root, at-slash, at-file, at-link, at-gone, at_next, at-last-link, at_entry}
+use Rattle.walk.proofs.Reached.{Reached, kind-told, no_root, at-root, at-slash, at-file, at-link, at-gone, at_next, at-last-link, at_entry}
 use Rattle.walk.proofs.Rooted.{some_asked, never, root_there}
 use Rattle.walk.proofs.until.lookup_entry_detail_until_symlink.Goals.{At-loop-e, In-Directory}
 use Rattle.walk.proofs.until.lookup_entry_detail_until_symlink.Goals as goal
@@ -28,7 +27,7 @@ first c = let p = c.requires.0 in let w = some_asked (with_tree c.args.tree p.0)
 -- the entry that was come to is a directory
 is-dir : (c : In-Directory) → let u = with_tree c.args.tree in
     (st : Store) (s : State) (w : World) (x : Shows (u st) s) (y : Asked (u st) s (hidden_at c.args.hidden) w) → answer (kind? (c.loop-e.invariant st s w x y).here) w ≡ some a_dir
-is-dir c st s w x y = let r = c.loop-e.invariant st s w x y in kind-is r a_dir (c.in-Directory.ensures (with_tree c.args.tree st) s x r.here r.there.at)
+is-dir c st s w x y = kind-told (c.loop-e.invariant st s w x y) a_dir (c.in-Directory.ensures (with_tree c.args.tree st) s x)
 
 pub returns-in-Err : goal.returns-in-Err
 returns-in-Err c = λ st s x w y. let m = c.in-Err.ensures (with_tree c.args.tree st) s x in no_root _ m.1 (never _ s (hidden_at c.args.hidden) w y m.0 m.1)
@@ -37,10 +36,10 @@ pub loop-e-init : goal.loop-e-init
 loop-e-init c = λ st s w x y. at-root _ c.requires.1 (root_there _ s x _ (c.in-Ok.ensures (with_tree c.args.tree st) s x) (hidden_at c.args.hidden) w c.requires.2 y)
 
 pub returns-in-File : goal.returns-in-File
-returns-in-File c = λ st s x w y. let r = c.loop-e.invariant st s w x y in at-file r c.loop-e-test.true (kind-is r aFile (c.in-File.ensures (with_tree c.args.tree st) s x r.here r.there.at))
+returns-in-File c = λ st s x w y. at-file (c.loop-e.invariant st s w x y) c.loop-e-test.true (c.in-File.ensures (with_tree c.args.tree st) s x)
 
 pub returns-in-Link : goal.returns-in-Link
-returns-in-Link c = λ st s x w y. let r = c.loop-e.invariant st s w x y in at-link r c.loop-e-test.true (kind-is r a_link (c.in-Link.ensures (with_tree c.args.tree st) s x r.here r.there.at))
+returns-in-Link c = λ st s x w y. at-link (c.loop-e.invariant st s w x y) c.loop-e-test.true (c.in-Link.ensures (with_tree c.args.tree st) s x)
 
 pub piece_end-b-requires : goal.piece_end-b-requires
 piece_end-b-requires c =
@@ -69,12 +68,9 @@ loop-e-preserved c =
 
 pub returns-in-Link-kind : goal.returns-in-Link-kind
 returns-in-Link-kind c =
-    λ st s x w y.
-    let r = c.loop-e.invariant st s w x y in
-    at-last-link r (omega (arith, c.loop-e-test.false)) (kind-is r a_link (c.in-Link-kind.ensures (with_tree c.args.tree st) s x r.here r.there.at))
+    λ st s x w y. at-last-link (c.loop-e.invariant st s w x y) (omega (arith, c.loop-e-test.false)) (c.in-Link-kind.ensures (with_tree c.args.tree st) s x)
 
 pub returns-in_default : goal.returns-in_default
 returns-in_default c =
     λ st s x w y.
-    let r = c.loop-e.invariant st s w x y in let k = c.kind-2 in
-    at_entry r (omega (arith, c.loop-e-test.false)) k.result c.in_default.not-Link (kind-is r (kind_from k.result) (k.ensures (with_tree c.args.tree st) s x r.here r.there.at))
+    at_entry (c.loop-e.invariant st s w x y) (omega (arith, c.loop-e-test.false)) c.kind-2.result c.in_default.not-Link (c.kind-2.ensures (with_tree c.args.tree st) s x)
