@@ -31,7 +31,7 @@ fn whole<'a>(tree: Tree<'a>) -> Search<'a>
 }
 
 // The entry that the path leads to.
-// kept: the buffer is lent by the caller, so the length of the path in front of it goes beside it.
+// kept: buffer and length are two, as said at the head of walk.
 pub fn leads(tree: Tree, work: &mut [u8], len: usize) -> Result<There, Refusal>
     requires { Some (with_tree tree) × PathIn work.old len }
     ensures { Of (still (with_tree tree.entry))
@@ -41,7 +41,7 @@ pub fn leads(tree: Tree, work: &mut [u8], len: usize) -> Result<There, Refusal>
 }
 
 // What the path comes to, there or not.
-// kept: the buffer is lent by the caller, so the length of the path in front of it goes beside it.
+// kept: buffer and length are two, as said at the head of walk.
 pub fn lookup(tree: Tree, work: &mut [u8], len: usize) -> Result<Result<There, Absent>, Refusal>
     requires { Some (with_tree tree) × PathIn work.old len }
     ensures { Of (still (with_tree tree.entry))
@@ -51,7 +51,7 @@ pub fn lookup(tree: Tree, work: &mut [u8], len: usize) -> Result<Result<There, A
 }
 
 // The same, with a last link not followed.
-// kept: the buffer is lent by the caller, so the length of the path in front of it goes beside it.
+// kept: buffer and length are two, as said at the head of walk.
 pub fn no_follow(tree: Tree, work: &mut [u8], len: usize) -> Result<Walked, Refusal>
     requires { Some (with_tree tree) × PathIn work.old len }
     ensures { Of (still (with_tree tree.entry)) (λ st s. Walks st s (world_of s) most_entries (take len work.old) work.new result) }

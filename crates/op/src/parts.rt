@@ -8,6 +8,7 @@ use layout::slices::{Slices, Tree};
 use layout::{FILE_NUMBERS, MOST_AT, PATHS_BYTES, ROOM_AT, WORD_COUNT};
 
 // How long they are. The words of the state and the cells of the kept paths are as long in every store.
+// kept: lengths and no slices, since parts that are written can only be cut in the call that lends them.
 #[derive(Clone, Copy)]
 pub struct Sizes {
     pub records: usize,

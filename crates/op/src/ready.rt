@@ -17,6 +17,7 @@ use refusal::Refusal;
 use text::text_ok;
 
 // The file number that a call is given, which is to be free or open.
+// kept: three ways of one kind, as the model's; an Option of the other two would be two words where a call now says one.
 #[derive(Clone, Copy)]
 pub enum Number {
     NotGiven,

@@ -1,5 +1,6 @@
 #![tactic(auto)]
 // The store in the model's words: each question of the model about an entry, over slices that are as long as the limits ask.
+// kept: a function takes the slices that it reads, since a Tree would ask its callers to lend more; contents reads all of a Tree.
 ghost use Rattle.std.proofs.Math.Option.{some};
 ghost use Rattle.std.specs.Prelude.{◌≡◌, take, get_or};
 ghost use Rattle.layout.specs.Numbers.{count_at, extent_at};
@@ -22,6 +23,7 @@ pub mod listing;
 pub mod space;
 
 // The first of the elements, as many as the state's word at `at` says.
+// kept: two calls of the library, as in ask_entry's private at and part; for these two lines to share them both would be made public.
 fn counted<'a>(words: &[u64], at: usize, elements: &'a [u64]) -> &'a [u64]
     ensures { result.now ≡ take (get_or words.now at 0) elements.now }
 {
@@ -75,7 +77,6 @@ pub fn kind(words: &[u64], records: &[u64], heads: &[u64], spot: Spot) -> Kind
 }
 
 // The metadata of the entry at the spot.
-// kept: a function takes only the slices that it reads; these four go together nowhere else.
 pub fn stat(words: &[u64], records: &[u64], heads: &[u64], times: &[i64], spot: Spot) -> Stat
     ensures { OfEntry (still (with_words words.now ∘ with_records records.now ∘ with_heads heads.now ∘ with_times times.now)) spot
         (λ s p. says (stat? p) s ≡ some (stat_from result)) }

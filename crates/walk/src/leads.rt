@@ -14,7 +14,7 @@ use layout::kind::Kind;
 use refusal::Refusal;
 
 // The path in out[..len] leads to an entry that is there, no link; NotFound: it does not.
-// kept: the buffer is lent by the caller, so the length of the path in front of it goes beside it.
+// kept: buffer and length are two, as said at the head of the crate.
 pub fn leads(scope: Search, out: &mut [u8], len: usize) -> Result<There, Refusal>
     requires { Some (with_tree scope.tree) × PathIn out.old len }
     ensures { let q = scope.entry in LeadsIn (still (with_tree q.tree)) (steps.leads q.bound) (take len out.old) (hidden_at q.hidden) out.new result }
@@ -23,7 +23,7 @@ pub fn leads(scope: Search, out: &mut [u8], len: usize) -> Result<There, Refusal
 }
 
 // find_directory_mut: the path in out[..len] leads to a directory; NotFound: missing, NotDirectory: a file.
-// kept: the buffer is lent by the caller, so the length of the path in front of it goes beside it.
+// kept: buffer and length are two, as said at the head of the crate.
 pub fn find_directory(scope: Search, out: &mut [u8], len: usize) -> Result<There, Refusal>
     requires { Some (with_tree scope.tree) × PathIn out.old len }
     ensures { let q = scope.entry in LeadsIn (still (with_tree q.tree)) (steps.directory q.bound) (take len out.old) (hidden_at q.hidden) out.new result }
@@ -46,7 +46,7 @@ pub struct Unmade {
 
 // The entry `name` of the directory to which the path in out[..len] leads, there or not; only that path is followed. An entry that is
 // there may be a link; its length is that of its directory's path.
-// kept: the buffer is lent by the caller, so the length of the path in front of it goes beside it.
+// kept: buffer and length are two, as said at the head of the crate.
 pub fn last_entry(
     scope: Search,
     out: &mut [u8],

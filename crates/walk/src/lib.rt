@@ -1,6 +1,8 @@
 #![tactic(auto)]
 // The lookups over a store (01, "Lookups"). A path is a text as it stands in a working buffer: a slash before each name, nothing for the
 // root. `hidden` is the record of an entry that counts as out, if one does.
+// kept: buffer and length are two; tried as a struct that says its path stands, it has to feign length 0 while a path is formed or refused.
+// kept: `Some` of the lent slices stands in the contracts; tried as a ghost field of Search, which holds no fact that names a store.
 ghost use Rattle.std.specs.Prelude.{◌≤◌, ◌<◌};
 ghost use Rattle.layout.specs.Numbers.{most_entries};
 ghost use Rattle.ask_find.specs.Spots.{hidden_at};
@@ -26,6 +28,7 @@ pub struct Search<'a> {
 }
 
 // What a walk that follows no last link ends in.
+// kept: three ways, of which none is a refusal, and of which two are entries: no Option or Result says it.
 #[derive(Clone, Copy)]
 pub enum End {
     // An entry that is no link: a directory or a file.
@@ -46,6 +49,7 @@ pub enum Met {
 }
 
 // An entry to which a path led, with the length of that path, which now stands in front of the buffer, and how many links were followed.
+// kept: len and links stand in four answers; one struct of the two would be taken apart wherever one of them is read.
 #[derive(Clone, Copy)]
 pub struct There {
     pub spot: Spot,

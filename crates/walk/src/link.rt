@@ -18,7 +18,7 @@ pub struct Link {
 
 // The path behind the link, to which the path in out[..len] leads on its way, takes the place of that path: the target seen from the link's
 // directory, and then the rest.
-// kept: the buffer is lent by the caller, so the length of the path in front of it goes beside it.
+// kept: buffer and length are two, as said at the head of the crate.
 pub fn behind_link(tree: Tree, out: &mut [u8], len: usize, link: Link) -> Result<usize, TooLong>
     requires { SomeLink (with_tree tree) (take len out.old) link.spot link.dir link.rest × (len ≤ 1024) × (1024 ≤ length out.old) }
     ensures { FollowsIn (still (with_tree tree.entry)) (take len out.old) link.spot link.dir link.rest out.new result }

@@ -58,7 +58,7 @@ impl Walk {
 }
 
 // The path in out[..len], with the links before its last name followed. The root, record 0, is never hidden.
-// kept: the buffer is lent by the caller, so the length of the path in front of it goes beside it.
+// kept: buffer and length are two, as said at the head of the crate.
 pub fn lookup_entry_detail_no_follow(
     tree: Tree,
     out: &mut [u8],
@@ -86,9 +86,9 @@ pub fn lookup_entry_detail_no_follow(
     }
 }
 
-// What the path in out[..len] leads to with all its links followed, there or absent; of last links as many as the bound, the number of links in the tree. The root,
-// record 0, is never hidden.
-// kept: the buffer is lent by the caller, so the length of the path in front of it goes beside it.
+// What the path in out[..len] leads to with all its links followed, there or absent; of last links as many as the bound, the number of
+// links in the tree.
+// kept: buffer and length are two, as said at the head of the crate.
 pub fn lookup_entry_detail(
     scope: Search,
     out: &mut [u8],

@@ -28,6 +28,7 @@ pub fn lookup_entry_detail_until_symlink(
     };
     let mut dir = 0;
     let mut e = 0;
+    // kept: e goes on by the length of a name, and where it stands is part of the answer.
     while e < path.len() {
         match store::kind(tree.words, tree.records, tree.heads, spot) {
             Kind::Directory => {}
