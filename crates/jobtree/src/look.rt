@@ -1,7 +1,7 @@
 // The calls with a path that only ask. Each is a shell, the tests and the operation over the parts of the slices that the limits ask, and
 // the call itself, which then clears both working buffers.
-// kept: each exported function has a name of its own and the six slices one by one, as C calls it; and each shell is its two steps, since
-// a closure handed to one shell for all would tell nothing of the outputs that it writes (tried: what it leaves in them is not known).
+// kept: each exported function has a name of its own and the six slices one by one, as C calls it.
+// kept: a closure handed to one shell for all tells nothing of the outputs that it writes (tried), so that each shell is its two steps.
 ghost use Rattle.std.specs.Prelude.{◌/◌, length};
 ghost use Rattle.model.specs.Calls.Calling as op;
 ghost use Rattle.refusal.specs.Numbers.{answered};

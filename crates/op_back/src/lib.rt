@@ -1,5 +1,6 @@
 #![tactic(auto)]
 // What is read back beside the calls of a job: the current directory, what is used and allowed, the file numbers.
+// kept: outputs are written where they are lent, for the reason at the head of op.
 ghost use Rattle.refusal.specs.Numbers.{answered};
 ghost use Rattle.layout.specs.Lent.{◌∘◌, with_words, with_records, with_heads, with_paths, still};
 ghost use Rattle.store.specs.Shows.{Of, Some};
@@ -23,6 +24,9 @@ pub fn tell_here(
     put_path(out, number, store::here(words, paths))
 }
 
+// How many numbers tell what is used and allowed.
+const USAGE: usize = 5;
+
 // Umask, limits, and what is used of them.
 pub fn tell_usage(
     words: &[u64],
@@ -33,10 +37,10 @@ pub fn tell_usage(
     requires { Some (with_words words.now ∘ with_records records.now ∘ with_heads heads.now) }
     ensures { Of (still (with_words words.now ∘ with_records records.now ∘ with_heads heads.now)) (λ _ s. UsageIs numbers.old numbers.new (answered result) s) }
 {
-    if numbers.len() < 5 {
+    if numbers.len() < USAGE {
         return Err(Refusal::ShortBuffer);
     }
-    numbers[..5].copy_from_slice(&[
+    numbers[..USAGE].copy_from_slice(&[
         store::mask(words) as u64,
         words[MOST_AT],
         words[ROOM_AT],

@@ -1,5 +1,6 @@
 #![tactic(auto)]
 // The operations that set the umask and the current directory.
+// kept: outputs are written where they are lent, for the reason at the head of op.
 ghost use Rattle.std.specs.Prelude.{take};
 ghost use Rattle.path.specs.Path.{names};
 ghost use Rattle.model.specs.Tree.{links_in};

@@ -8,7 +8,7 @@ use Rattle.op_number.proofs.position.from_end.Goals as goal
 pub returns-in-Some : goal.returns-in-Some
 returns-in-Some c =
     let e = sum_signed c.args.size c.args.offset _ c.ranges.offset.fits c.cast_signed.ensures in
-    λ w. end_at c.args.size c.args.offset w _ (omega (arith, ints, e, c.in-Some.ensures)) c.if-place-lt-HALF.true
+    λ w. end_at c.args.size c.args.offset w _ (omega (arith, ints, e, c.in-Some.ensures)) (omega arith)
 
 pub returns-in_default : goal.returns-in_default
 returns-in_default c =
