@@ -19,7 +19,7 @@ fn before(text: &[u8], start: usize) -> Option<&[u8]>
 // The names that a text keeps, the last first: where each begins and ends.
 #[derive(Drop)]
 pub struct KeptNames<'a> {
-    // The front of the text that is left to read.
+    // The front of the text that is left to read; None: nothing is, not even an empty piece.
     left: Option<&'a [u8]>,
     // Whether `..` drops a name.
     strike: bool,
