@@ -13,7 +13,7 @@ use Rattle.layout.specs.Rows.{Row, name_total, rows}
 use Rattle.layout.specs.Store.{Store, lent, most, count, extent, live, rows_of}
 use Rattle.layout.specs.Parts.{path_after}
 use Rattle.model.specs.Calls.States.{State}
-use Rattle.edit_room.specs.Extents.{trim, Roomy, Resized, Reserved, Released}
+use Rattle.edit_room.specs.Extents.{trim, Roomy, Resized, Reserved, Released, OnSlots}
 use Rattle.edit_room.proofs.Parting.{part_within}
 use Rattle.ask_find.specs.declared.Spot.{Spot}
 use Rattle.store.specs.Shows.{Shows, Stands}
@@ -63,8 +63,7 @@ pub record ReservedIn (st u : Store) (s : State) : Type 0 where
   pub within : extent u ≤ length u.heads
   pub part : extent u ≡ length (trim u).heads
 
-pub reserved : {st : Store} {s : State} {ws hs : List ℕ} → Shows st s
-    → ((v : Store) → Roomy (lent st.words v.records st.heads v.times v.paths v.bytes) → Reserved (lent st.words v.records st.heads v.times v.paths v.bytes) (lent ws v.records hs v.times v.paths v.bytes))
+pub reserved : {st : Store} {s : State} {ws hs : List ℕ} → Shows st s → OnSlots st.words ws st.heads hs Reserved
     → ReservedIn st (lent ws st.records hs st.times st.paths st.bytes) s
 reserved {st = st} {ws = ws} {hs = hs} h f =
     let u : Store = lent ws st.records hs st.times st.paths st.bytes in
@@ -77,7 +76,6 @@ pub record ReleasedIn (u v : Store) (s : State) : Type 0 where
   pub shows : Shows v s
   pub stands : (spot : Spot) (p : Path) → Stands u spot p → Stands v spot p
 
-pub released : {u : Store} {s : State} {ws hs : List ℕ} → Shows u s
-    → ((v : Store) → Roomy (lent u.words v.records u.heads v.times v.paths v.bytes) → Released (lent u.words v.records u.heads v.times v.paths v.bytes) (lent ws v.records hs v.times v.paths v.bytes))
+pub released : {u : Store} {s : State} {ws hs : List ℕ} → Shows u s → OnSlots u.words ws u.heads hs Released
     → ReleasedIn u (lent ws u.records hs u.times u.paths u.bytes) s
 released h f = record { shows = shows-released h f; stands = stands-released h.roomy f }
