@@ -19,8 +19,7 @@ fn entry_word(h: u64) -> bool
 }
 
 // Takes the slot of each record; false where one is taken already, or its word is none of an entry's.
-// kept: beside slots::marks::mark_records, as take_open is beside mark_numbers: with closures for what differs, the contract of one for
-// both is longer than both
+// kept: beside slots::marks::mark_records, as take_open beside mark_numbers: one contract for both, over closures, is longer than both
 pub fn take_named(recs: &[u64], heads: &[u64], taken: &mut [u8; MOST_SLOTS]) -> bool
     requires { (length heads.now ≤ most_slots) × Within (length heads.now) recs.now × (length taken.old ≡ most_slots)
         × ((k : ℕ) → get_or taken.old k 0 ≡ 0) × (filled taken.old ≡ 0) }
