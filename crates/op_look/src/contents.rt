@@ -20,7 +20,7 @@ use refusal::Refusal;
 use walk::End;
 
 // The target of the link at the path in work[..len], as it was given.
-// kept: the buffer is lent by the caller, so the length of the path in front of it goes beside it.
+// kept: buffer and length are two, as said at the head of walk.
 pub fn read_link_at(
     tree: Tree,
     work: &mut [u8],
@@ -47,7 +47,7 @@ pub fn read_link_at(
 }
 
 // The contents of the file that the path in work[..len] leads to. 5 is of the path that the lookup comes to.
-// kept: the buffer is lent by the caller, so the length of the path in front of it goes beside it.
+// kept: buffer and length are two, as said at the head of walk.
 pub fn read_at(
     tree: Tree,
     work: &mut [u8],
@@ -95,7 +95,7 @@ pub fn put_path(out: &mut [u8], number: &mut u64, path: &[u8]) -> Result<(), Ref
 }
 
 // The path of the entry that the path in work[..len] leads to.
-// kept: the buffer is lent by the caller, so the length of the path in front of it goes beside it.
+// kept: buffer and length are two, as said at the head of walk.
 pub fn canonicalize_at(
     tree: Tree,
     work: &mut [u8],

@@ -35,7 +35,7 @@ fn put_records(tree: Tree, times: &[i64], rows: &mut [i64], spot: Spot)
 }
 
 // The entries of the directory that the path in work[..len] leads to.
-// kept: the buffer is lent by the caller, so the length of the path in front of it goes beside it.
+// kept: buffer and length are two, as said at the head of walk.
 pub fn list_at(
     tree: Tree,
     times: &[i64],

@@ -32,7 +32,7 @@ fn show(tree: Tree, times: &[i64], rows: &mut [i64], spot: Spot) -> Result<(), R
 }
 
 // The record of the entry that the path in work[..len] leads to.
-// kept: the buffer is lent by the caller, so the length of the path in front of it goes beside it.
+// kept: buffer and length are two, as said at the head of walk.
 pub fn metadata_at(
     tree: Tree,
     times: &[i64],
@@ -53,7 +53,7 @@ pub fn metadata_at(
 }
 
 // The same of the entry itself: a last link is not followed.
-// kept: the buffer is lent by the caller, so the length of the path in front of it goes beside it.
+// kept: buffer and length are two, as said at the head of walk.
 pub fn symlink_metadata_at(
     tree: Tree,
     times: &[i64],

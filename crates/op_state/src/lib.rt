@@ -29,7 +29,7 @@ pub fn set_umask_to(words: &mut [u64], mask: u32, number: &mut u64) -> Result<()
 }
 
 // Makes the entry that the path in work[..len] leads to the current directory; its kind is not tested.
-// kept: the slices are lent one by one, since words and paths are written; of the lent buffer the path in front goes by its length.
+// kept: the slices are lent one by one, since words and paths are written; buffer and length are two, as said at the head of walk.
 pub fn set_current_at(
     words: &mut [u64],
     records: &[u64],
