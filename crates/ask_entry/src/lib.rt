@@ -37,6 +37,7 @@ pub struct Opened {
 }
 
 // The element at i; the other value behind the end.
+// kept: the library's `get`, and what stands behind the end said once for all that read words and times.
 fn at<T: Copy>(s: &[T], i: usize, other: T) -> T
     ensures { result ≡ get_or s.now i other }
 {

@@ -43,6 +43,7 @@ impl Spot {
 }
 
 // Where a missing entry would stand: before that record, with its name at that offset, at that depth.
+// kept: `at` and `off` and no Spot: who takes a gap reads one field at a time, and would write `gap.spot.at` for `gap.at`.
 #[derive(Clone, Copy)]
 pub struct Gap {
     pub at: usize,

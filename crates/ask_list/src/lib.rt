@@ -1,6 +1,7 @@
 #![tactic(auto)]
 // The entries of a directory of a store that obeys the rules: whether it has any, how many, their names (01, "List"), and one after
 // the other.
+// kept: `Placed` stands in each contract: it is one word, and a struct of records and spot would be made anew for each call.
 ghost use Rattle.std.specs.Prelude.{◌≡◌, ◌+◌, ◌<◌, length, get_or};
 ghost use Rattle.layout.specs.Fields.{depth_of};
 ghost use Rattle.ask_list.specs.Entries.{entries_at, entries_behind};
@@ -78,6 +79,7 @@ pub fn put_names(out: &mut [u8], records: &[u64], bytes: &[u8], spot: Spot)
     requires { Roomy records.now bytes.now spot out.old }
     ensures { TellsNames records.now bytes.now spot out.old out.new }
 {
+    // kept: k goes on by the length of a name and its zero byte: it is where the next one is written.
     let mut k = 0;
     for entry in below(records, spot) {
         let o = entry.spot.off;

@@ -6,7 +6,7 @@ ghost use Rattle.blocks.specs.Moved.{moved};
 ghost use Rattle.blocks.specs.Turn.{turned};
 
 // Moves s[at..used] up by n.
-// kept: `used` beside s, as in close_gap: as `&mut s[..used + n]` six of seven calls would write the cut and the sum that stand here once.
+// kept: `used` beside s, as in close_gap: without it six of the seven calls would first cut `&mut s[..used + n]` or `&mut s[..used]` themselves.
 pub fn open_gap<T: Copy>(s: &mut [T], used: usize, at: usize, n: usize)
     requires { (at ≤ used) × (used + n ≤ length s.old) }
     ensures { s.new ≡ moved s.old at (at + n) (used - at) }

@@ -20,6 +20,7 @@ pub enum Made<'a> {
 }
 
 impl<'a> Made<'a> {
+    // kept: a method and no From, since `made.kind()` is plainer than `Kind::from(made)`.
     pub fn kind(self) -> Kind
         ensures { result ≡ kind_made self.entry }
     {

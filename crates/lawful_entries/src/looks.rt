@@ -15,6 +15,7 @@ pub struct Seen {
 }
 
 // Whether some byte is a slash, and whether some byte is 0 or not ASCII.
+// kept: both flags in one pass with no way out; `contains` and `any` would be two, and what `any` takes stands at text's all_plain.
 fn look(s: &[u8]) -> Seen
     ensures { (result.slash ≡ list_any slash s.now) × (result.odd ≡ list_any odd s.now) }
 {

@@ -9,7 +9,7 @@ use layout::NAME_LENGTHS;
 const LENGTHS: usize = NAME_LENGTHS as usize;
 
 // 256 times where the name begins, and its length.
-// kept: one number; with two fields, twice as long to clear, the test of 511 entries is a fifth slower, and its goal is 10 ns an entry (docs/BENCH.md)
+// kept: one number; two fields are twice as long to clear, and the test of 511 entries, 8.4 ns of its goal of 10 (bench/RESULTS.md), is a fifth slower.
 #[derive(Clone, Copy)]
 pub struct Span(u32);
 

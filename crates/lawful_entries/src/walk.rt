@@ -51,6 +51,7 @@ fn walk_below(recs: &[u64], heads: &[u64], bytes: &[u8]) -> bool
     let mut last = [Span::EMPTY; MOST_NAMES];
     let mut d = 0;
     let mut dir = true;
+    // kept: off goes on by the length of a name, since a Span says where its name stands.
     let mut off = 0;
     for w in recs {
         if !entry_ok(&last[..d], dir, bytes, *w, off, heads.len()) {

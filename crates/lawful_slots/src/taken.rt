@@ -1,4 +1,5 @@
 // Slots that are taken: a 1 for each that a record names or a file number stands on.
+// kept: bytes and no bools, since the clauses tell of 0 and 1, and `filled` counts them as it counts the words of slots.
 ghost use Rattle.std.specs.Prelude.{◌≡◌, ℕ, ◌≤◌, length, get_or, IfSome};
 ghost use Rattle.layout.specs.Numbers.{extent_at, file_numbers, most_slots};
 ghost use Rattle.slots.specs.Uses.{Within};

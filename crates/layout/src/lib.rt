@@ -120,6 +120,7 @@ pub fn len_of(h: u64) -> usize
 }
 
 // The number of the kind, which in a damaged store may be no kind's: `Kind::of` tells which.
+// kept: a public function, whose promise may not shrink; `Kind::of`, which is made of it, tells the kind itself.
 pub fn kind_of(h: u64) -> u64
     ensures { result ≡ kind_of h }
 {

@@ -6,7 +6,7 @@ ghost use Rattle.name_order.specs.Order.{order_of, number};
 use std::cmp::Ordering;
 
 // By the first byte in which they differ; a name that ends there is less. Eight bytes at a time, as one number.
-// kept: three ways by length: `a.cmp(b)` takes 2 to 6 ns more for 4 to 30 bytes; the goal of 10 ns an entry leaves the test 2 (docs/BENCH.md).
+// kept: three ways by length: by `a.cmp(b)` 4 to 30 bytes take 2 to 6 ns more, and of the goal of 10 ns an entry the test takes 8.3 (bench/RESULTS.md).
 pub fn compare(a: &[u8], b: &[u8]) -> Ordering
     ensures { result ≡ order_of a.now b.now }
 {

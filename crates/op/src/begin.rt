@@ -30,7 +30,7 @@ fn form(
     ensures { Of (still (with_words words.now ∘ with_paths paths.now)) (λ _ s. Stops s sort path.now out.new result) }
 {
     match sort {
-        Sort::Named if path.len() == 0 => Err(Refusal::NotFound),
+        Sort::Named if path.is_empty() => Err(Refusal::NotFound),
         _ => Ok(absolute_in(words, paths, out, path)?),
     }
 }

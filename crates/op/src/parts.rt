@@ -5,7 +5,7 @@ ghost use Rattle.layout.specs.Lent.{lent_by};
 ghost use Rattle.op.specs.Parts.{cut, tree_of, SizesOf};
 
 use layout::slices::{Slices, Tree};
-use layout::{FILE_NUMBERS, MOST_AT, PATHS_BYTES, ROOM_AT, WORD_COUNT};
+use layout::{FILE_NUMBERS, MOST_AT, PATHS_BYTES, ROOM_AT, TIMES, WORD_COUNT};
 
 // How long they are. The words of the state and the cells of the kept paths are as long in every store.
 // kept: lengths and no slices, since parts that are written can only be cut in the call that lends them.
@@ -27,7 +27,7 @@ impl Sizes {
         Sizes {
             records,
             heads,
-            times: 4 * heads,
+            times: TIMES * heads,
             bytes: lent.words[ROOM_AT] as usize,
         }
     }

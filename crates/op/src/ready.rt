@@ -12,7 +12,7 @@ ghost use Rattle.op.specs.Testing.{texts_of, walks, work_of, number_of, screen_o
 
 use layout::slices::Slices;
 use layout::{FILE_NUMBERS, WORD_COUNT};
-use path::lengths::lengths_ok;
+use path::lengths::{LONGEST_PATH, lengths_ok};
 use refusal::Refusal;
 use text::text_ok;
 
@@ -31,7 +31,7 @@ fn work_fits(work: Option<(usize, usize)>) -> bool
 {
     match work {
         None => true,
-        Some((first, second)) => 1024 <= first && 1024 <= second,
+        Some((first, second)) => LONGEST_PATH <= first && LONGEST_PATH <= second,
     }
 }
 

@@ -9,6 +9,7 @@ use ask_entry::Stat;
 pub const NUMBERS: usize = 7;
 
 // A directory is 0, a file 1, a link 2.
+// kept: no From is allowed here, since Stat and the array are types of other crates.
 fn numbers_of(s: Stat) -> [i64; NUMBERS]
     requires { s.size < 2 ^ 63 }
     ensures { result ≡ stat_numbers (stat_from s) }

@@ -19,7 +19,7 @@ use op::record::{NUMBERS, put_record};
 use refusal::Refusal;
 
 // The records of the entries of the directory at the spot, one behind the other, in front of the row.
-// kept: step by step, as `next` asks that the entry stands: `successors` would have it shown of all runs before the loop, the loop turn by turn.
+// kept: step by step: `successors` would have it shown of all runs before the loop that each entry stands, and ask_list's iterator tells of records alone.
 fn put_records(tree: Tree, times: &[i64], rows: &mut [i64], spot: Spot)
     requires { SomeRows (with_tree tree ∘ with_times times.now) spot rows.old }
     ensures { OfEntry (still (with_tree tree.entry ∘ with_times times.now)) spot (λ s p. RowsPut s p rows.old rows.new) }

@@ -10,7 +10,7 @@ pub const LONGEST_NAME: usize = 255;
 
 // At most 1,024 bytes, and at most 255 between slashes. A piece is 256 bytes or more if no slash stands in its first 256:
 // they are read from their end, so that most bytes are never read.
-// kept: by `split` and `all` a text of 28 bytes takes 25 ns for 2, of which a link in the test of a store, 10 ns an entry, has none to give.
+// kept: by `split` and `all` a target of 28 bytes takes 25 ns, not 2, and the test of a store has 10 for an entry with all of it (docs/BENCH.md).
 pub fn lengths_ok(s: &[u8]) -> bool
     ensures { result ≡ lengths_ok s.now }
 {

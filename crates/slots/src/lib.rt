@@ -85,6 +85,7 @@ pub fn clear(heads: &mut [u64], bytes: &mut [u8], k: usize)
 }
 
 // Slot i of a sweep: what stands up to src is still in its old place, and from dst on all is in its new.
+// kept: `keep` is the mark as it stands, and no bool, since Step and `swept` read marks.
 fn sweep_step(
     heads: &mut [u64],
     bytes: &mut [u8],
@@ -112,7 +113,7 @@ pub fn sweep(heads: &mut [u64], bytes: &mut [u8], marks: &[u8])
 {
     let mut src = bytes.len();
     let mut dst = bytes.len();
-    // kept: by index, since the clause of a step names its slot by number
+    // kept: by index: the step is lent all of heads, since its clause (Step) says what is left of them; of one word the loop would have to say it.
     for k in (0..heads.len()).rev() {
         let len = len_of(heads[k]);
         dst = sweep_step(heads, bytes, k, marks[k], src, dst);
@@ -121,6 +122,7 @@ pub fn sweep(heads: &mut [u64], bytes: &mut [u8], marks: &[u8])
 }
 
 // All four times of a slot: the first for accessed, changed and created, the second for modified.
+// kept: two times and no struct, here and in what hands them on: callers have them apart, as the model's `touch` does.
 pub fn put_times(times: &mut [i64], slot: usize, a: i64, t: i64)
     requires { 4 * slot + 3 < length times.old }
     ensures { times.new ≡ times_set times.old slot a t }

@@ -17,6 +17,7 @@ impl From<CapacityError<u8>> for Malformed {
 }
 
 // The value of a hexadecimal digit in small letters.
+// kept: the library's `to_digit` takes capital letters as well
 fn hexadecimal(digit: u8) -> Option<u8>
     ensures { IfSome result (λ value. value < 16) }
 {

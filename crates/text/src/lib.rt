@@ -74,6 +74,7 @@ impl Classes {
         }
         let class = self.class_at(s, at);
         let (low, high) = second(lead);
+        // kept: of `(low..=high).contains(&class)` no proof was found (tried).
         low <= class && class <= high
     }
 
