@@ -6,17 +6,13 @@ ghost use Rattle.slots.specs.Uses.{Within};
 ghost use Rattle.lawful_slots.specs.Uses.{filled, entry_word, NamedBy, OpenedBy};
 
 use layout::kind::Kind;
-use layout::{FILE_NUMBERS, MOST_SLOTS, kind_of, len_of, slot_held, slot_of};
+use layout::{FILE_NUMBERS, MOST_SLOTS, len_of, slot_held, slot_of};
 
 // Whether the word can be that of an entry's slot: a directory's, which has no bytes, a file's or a link's.
-// kept: the kind as a number; by `Kind::of` the test of 4,096 entries takes 11.6 ns an entry for 10.7, further above its goal of 10 (docs/BENCH.md)
 fn entry_word(h: u64) -> bool
     ensures { result ≡ entry_word h }
 {
-    let kind = kind_of(h);
-    ((kind == Kind::Directory.code()) & (len_of(h) == 0))
-        | (kind == Kind::File.code())
-        | (kind == Kind::Link.code())
+    Kind::of(h).is_some_and(|kind| kind != Kind::Directory || len_of(h) == 0)
 }
 
 // Takes the slot of each record; false where one is taken already, or its word is none of an entry's.
