@@ -100,13 +100,11 @@ fn unmarked(heads: &[u64], marks: &[u8; MOST_SLOTS]) -> usize
     requires { length heads.now ≤ most_slots }
     ensures { result ≡ unmarked_bytes marks.now heads.now }
 {
-    let mut t = 0;
-    for (h, m) in heads.iter().zip(marks) {
-        if *m == 0 {
-            t += len_of(*h);
-        }
-    }
-    t
+    heads
+        .iter()
+        .zip(marks)
+        .map(|(h, m)| if *m == 0 { len_of(*h) } else { 0 })
+        .sum()
 }
 
 // "plus contents of removed files still open"
