@@ -1,6 +1,6 @@
 -- What a program is answered, from what `path` answers.
 -- Assumes nothing.
-use mathlib.Core.Bool.{Bool, true, false, ◌&&◌, cond}
+use mathlib.Core.Bool.{Bool, true, false, true≢false, ◌&&◌, cond}
 use mathlib.Core.List.{List, ◌++◌}
 use mathlib.Core.Path.{◌≡◌, refl, sym, ap, ◌∙◌}
 use Prim.Native.Nat.{ℕ, ◌+◌, ◌-◌, ◌≤◌, ◌<◌}
@@ -12,7 +12,8 @@ use borrow.Author.Tests.{le-leb, lt-leb, leb-true}
 use Rattle.text.specs.Utf8.{Bytes}
 use Rattle.path.specs.Path.{Name, names, normal, absolute, body, last_name}
 use Rattle.path.specs.Backward.{part}
-use Rattle.std.specs.Prelude.{Ok}
+use Rattle.std.specs.Prelude.{Ok, Err}
+use Rattle.std.specs.Result.{is_ok}
 use Rattle.path.specs.Answer.{Formed, too_long, pick, formed, written, Forms}
 use Rattle.path.proofs.Laws.{names-body, every_map, proper-shown, all_every, normal-proper}
 use Rattle.test_probe.specs.Numbers.{number_of, answer_of, buffer_of, Answers, name_answer, name_buffer, NameAnswers, staged, followed_text, fits, behind_answer, behind_buffer, BehindAnswers, room, follow_answer, follow_buffer, FollowAnswers}
@@ -28,6 +29,19 @@ unfolding answer_of buffer_of
 answers-formed {t} {before} {after} {f} {r} h w n =
     let e : leb 1024 (length before) ≡ true = le-leb 1024 (length before) h in
     record { answer = rw e (n ∙ ap number_of w.answer); buffer = rw e w.buffer }
+
+-- a length that is formed is short, and a refusal's number is none
+pub ok-short : {t before after : Bytes} {f : Formed} {n : ℕ} → Forms t before after f → f ≡ Ok n → n ≤ 1024
+unfolding formed
+ok-short {t} {n = n} w e = go (leb (length t) 1024) refl (sym e ∙ w.answer)
+  where
+    go : (y : Bool) → leb (length t) 1024 ≡ y → Ok n ≡ pick y (Ok (length t)) too_long → n ≤ 1024
+    go true ey a = omega (arith, leb-true (length t) 1024 ey, ap number_of a)
+    go false ey a = absurd (true≢false (ap is_ok a))
+
+pub none-long : (f : Formed) → ((n : ℕ) → f ≡ Ok n → ⊥) → 1024 < number_of f
+none-long (Ok n) h = absurd (h n refl)
+none-long (Err e) h = omega arith
 
 -- ---- the last name
 

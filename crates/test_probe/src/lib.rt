@@ -2,6 +2,7 @@
 // Only for tests and timing: what `text`, `path` and `lawful` answer, by numbers and bytes; `test_probe_c` hands each function on to C
 // and Rust programs. No function asks anything of its caller.
 // kept: an answer is a number, and a refusal its number, since C programs read them
+// kept: each function has a name of its own, and its slices one by one, as test_probe_c hands it on to C.
 ghost use Rattle.std.specs.Prelude.{◌≡◌, cond, ◌≤◌, eqb, length, take};
 ghost use Rattle.text.specs.Utf8.{text};
 ghost use Rattle.path.specs.Path.{names, normal, absolute, body, lengths_ok};
@@ -124,6 +125,7 @@ pub fn probe_last_name<'a>(out: &mut [u8], path: &'a [u8], cwd: &'a [u8]) -> u64
 }
 
 // out[..have] is a link's directory: the link's name, of `name` bytes, and the rest are put behind it, and it is followed.
+// kept: `have` beside the buffer, as in path_form's follow, which forms the path in place.
 fn follow_behind(out: &mut [u8], have: usize, behind: &[u8], name: usize, target: &[u8]) -> u64
     requires { (have ≤ 1024) × (1024 ≤ length out.old) × (name ≤ length behind.now)
         × (body (names (take have out.old)) ≡ take have out.old) }
@@ -145,11 +147,13 @@ pub fn probe_follow(out: &mut [u8], dir: &[u8], behind: &[u8], name: usize, targ
     if behind.len() < name {
         return 1000001;
     }
-    let have = probe_normalize(out, dir);
-    if LONGEST_PATH < have as usize {
-        return have;
+    if out.len() < LONGEST_PATH {
+        return 1000014;
     }
-    follow_behind(out, have as usize, behind, name, target)
+    match normalize_path(out, dir) {
+        Ok(have) => follow_behind(out, have, behind, name, target),
+        refused => number(refused),
+    }
 }
 
 // 0 where the slices are a store, or refusal 1.

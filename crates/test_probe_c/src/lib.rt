@@ -1,5 +1,6 @@
 #![tactic(auto)]
 // The functions of `test_probe` for C and Rust programs, under the same names.
+// kept: each exported function has a name of its own, its slices one by one and a number for an answer, as C calls it.
 ghost use Rattle.std.specs.Prelude.{◌≡◌, cond, ◌≤◌, eqb};
 ghost use Rattle.text.specs.Utf8.{text};
 ghost use Rattle.path.specs.Path.{names, normal, absolute, body, lengths_ok};
