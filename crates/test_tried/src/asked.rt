@@ -7,10 +7,14 @@ ghost use Rattle.edit_room.specs.Extents.{Roomy};
 ghost use Rattle.test_tried.specs.Tried.{Whole, Fits};
 
 use layout::slices::Slices;
-use layout::{FILE_NUMBERS, LENGTHS, MOST_AT, MOST_ENTRIES, PATHS_BYTES, ROOM_AT, WORD_COUNT};
+use layout::{
+    FILE_NUMBERS, LENGTHS, MOST_AT, MOST_ENTRIES, PATHS_BYTES, ROOM_AT, TIMES, WORD_COUNT,
+};
 
+// kept: a cast with a name
 const MOST: usize = MOST_ENTRIES as usize;
 
+// kept: a cast with a name
 const LENGTH: usize = LENGTHS as usize;
 
 // Whether the slices are as long as the limits ask, and no longer.
@@ -25,7 +29,7 @@ fn whole(lent: Slices) -> bool
     most <= MOST
         && lent.records.len() == most
         && slots == most + FILE_NUMBERS
-        && lent.times.len() == 4 * slots
+        && lent.times.len() == TIMES * slots
         && lent.paths.len() == PATHS_BYTES
         && lent.bytes.len() == lent.words[ROOM_AT] as usize
 }

@@ -13,9 +13,7 @@ use crate::asked::ready;
 use crate::place::{is_dir, look};
 use layout::kind::Kind;
 use layout::slices::Slices;
-use layout::{
-    CELL_BYTES, COUNT_AT, EXTENT_AT, FILE_NUMBERS, HOLDER_AT, NUMBER_WORDS, kind_of, slot_of,
-};
+use layout::{CELL_BYTES, COUNT_AT, EXTENT_AT, FILE_NUMBERS, HOLDER_AT, NUMBER_WORDS, slot_of};
 
 // The record of the entry `name` of the directory at record dir.
 fn child(lent: Slices, dir: usize, name: &[u8]) -> Option<usize>
@@ -56,7 +54,7 @@ fn file_slot(lent: Slices, path: &[u8]) -> Option<usize>
 {
     let i = walk(lent, path)?;
     let slot = slot_of(lent.records[i]);
-    (kind_of(lent.heads[slot]) == Kind::File.code()).then_some(slot)
+    (Kind::of(lent.heads[slot]) == Some(Kind::File)).then_some(slot)
 }
 
 pub fn try_open(

@@ -16,8 +16,9 @@ use ask_find::{Gap, Spot};
 use edit_entry::made::Made;
 use layout::kind::Kind;
 use layout::slices::Slices;
-use layout::{COUNT_AT, MOST_BYTES, kind_of, names_of, slot_of};
+use layout::{COUNT_AT, MOST_BYTES, names_of, slot_of};
 
+// kept: a cast with a name
 const MOST: usize = MOST_BYTES as usize;
 
 // Whether it is a name that can stand in a directory.
@@ -36,7 +37,7 @@ pub fn is_dir(lent: Slices, i: usize) -> bool
         return false;
     }
     let slot = slot_of(lent.records[i]);
-    kind_of(lent.heads[slot]) == Kind::Directory.code()
+    Kind::of(lent.heads[slot]) == Some(Kind::Directory)
 }
 
 // The entry `name` of the directory at record dir, or where it would stand.

@@ -14,7 +14,7 @@ use crate::asked::{ready, room_for};
 use edit_slot::Given;
 use layout::kind::Kind;
 use layout::slices::Slices;
-use layout::{COUNT_AT, EXTENT_AT, kind_of, len_of, slot_of};
+use layout::{COUNT_AT, EXTENT_AT, len_of, slot_of};
 
 // The slot of record i, if it is one of so many.
 fn slot_at(words: &[u64], records: &[u64], slots: usize, i: usize) -> Option<usize>
@@ -35,7 +35,7 @@ fn file_at(lent: Slices, i: usize, n: usize) -> Option<usize>
 {
     let slot = slot_at(lent.words, lent.records, lent.heads.len(), i)?;
     let h = lent.heads[slot];
-    if kind_of(h) != Kind::File.code() {
+    if Kind::of(h) != Some(Kind::File) {
         return None;
     }
     room_for(lent, len_of(h), n).then_some(slot)
