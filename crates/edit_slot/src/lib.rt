@@ -8,7 +8,7 @@ ghost use Rattle.slots.specs.Put.{fitted};
 ghost use Rattle.edit_slot.specs.Changes.{Changes, HasRoom, with_mode};
 ghost use Rattle.edit_slot.specs.Times.{set_if, in_model};
 
-use layout::{ACCESSED_AT, MODE_UNIT, MODIFIED_AT, TIMES};
+use layout::{MODE_UNIT, MODIFIED_AT, TIMES};
 
 // The mode stands in the word above the kind and the length.
 fn put_mode(heads: &mut [u64], slot: usize, m: u32)
@@ -58,7 +58,7 @@ pub fn set_some_times(times: &mut [i64], slot: usize, given: Given)
     ensures { OnLawful (on_times times.old times.new) (λ st u. slot < length st.heads
         → Changes (touch_some (in_model given.accessed) (in_model given.modified)) st u slot) }
 {
-    put_if(times, TIMES * slot + ACCESSED_AT, given.accessed);
+    put_if(times, TIMES * slot, given.accessed);
     put_if(times, TIMES * slot + MODIFIED_AT, given.modified);
 }
 

@@ -66,6 +66,6 @@ place-found st l i h x n (Ok s) y = tt
 place-found st l i h x n (Err g) y = spotted st l i h x n g y.0 y.1
 
 -- its record, if it is there
-pub record-found : (st : Store) (i : ℕ) (x : Name) (r : Result Spot Gap) → Looks st most_entries (state st).tree (path_at st i) x r → IfSome (result_ok r) (λ s. ChildOf st i x s.at)
-record-found st i x (Ok s) y = record { within = y.at.within; path = y.at.path }
-record-found st i x (Err g) y = tt
+pub record-found : (st : Store) (i : ℕ) → i < count st → (x : Name) (r : Result Spot Gap) → Looks st most_entries (state st).tree (path_at st i) x r → IfSome (result_ok r) (λ s. ChildOf st i x s.at)
+record-found st i h x (Ok s) y = record { inside = h; within = y.at.within; path = y.at.path }
+record-found st i h x (Err g) y = tt

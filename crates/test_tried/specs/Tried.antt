@@ -36,6 +36,7 @@ pub record Renamable (st : Store) (i n : ℕ) : Type 0 where
 
 -- record i is that of the entry x of the directory at record dir
 pub record ChildOf (st : Store) (dir : ℕ) (x : Name) (i : ℕ) : Type 0 where
+  pub inside : dir < count st
   pub within : i < count st
   pub path : path_at st i ≡ path_at st dir ++ (x ∷ [])
 

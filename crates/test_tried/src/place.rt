@@ -1,13 +1,14 @@
 // What an insertion asks.
 ghost use Rattle.std.specs.Prelude.{IfSome, true, ◌≡◌, ◌<◌, ◌≤◌, T, length};
 ghost use Rattle.model.specs.Rules.{name_ok};
+ghost use Rattle.layout.specs.Kinds.{code_of};
 ghost use Rattle.layout.specs.Numbers.{most_entries};
 ghost use Rattle.layout.specs.Store.{count, kind_at, state};
 ghost use Rattle.layout.specs.Lent.{lent_by};
 ghost use Rattle.layout.specs.Lawful.{Lawful};
 ghost use Rattle.ask_find.specs.Paths.{slot_at, path_at};
 ghost use Rattle.ask_find.specs.Spots.{Looks};
-ghost use Rattle.edit_entry.specs.Made.{bytes_made, Holds};
+ghost use Rattle.edit_entry.specs.Made.{kind_made, bytes_made, Holds};
 ghost use Rattle.edit_entry.specs.Insertion.{Insertable};
 ghost use Rattle.test_tried.specs.Tried.{Spotted};
 
@@ -68,7 +69,7 @@ pub fn spot_in(lent: Slices, dir: usize, name: &[u8]) -> Option<Gap>
 // What an entry of that kind with those bytes is: 1 is a directory, which has none, 2 a file, 3 a link.
 // kept: the kind is a number, since any may be asked for and one that is none is refused; a Kind would ask more of callers.
 pub fn made_of(kind: u64, text: &[u8]) -> Option<Made<'_>>
-    ensures { IfSome result (λ m. bytes_made m ≡ text.now) }
+    ensures { IfSome result (λ m. (code_of (kind_made m) ≡ kind) × (bytes_made m ≡ text.now)) }
 {
     match kind {
         1 if text.is_empty() => Some(Made::Directory),

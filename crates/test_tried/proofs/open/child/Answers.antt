@@ -12,4 +12,4 @@ pub returns : goal.returns
 returns c =
     let g = c.args in
     subst (λ (o : Option Spot). IfSome o (λ s. ChildOf (lent_by g.lent) g.dir g.name.now s.at)) (sym c.ok.ensures.value ∙ c.in_ok-ok.was)
-    (record-found (lent_by g.lent) g.dir g.name.now _ c.look.ensures)
+    (record-found (lent_by g.lent) g.dir (c.is_dir.ensures c.if-not-is_dir.false).0 g.name.now _ c.look.ensures)
