@@ -1,8 +1,8 @@
 -- A slot's word and who has the slot, kind by kind.
 -- Assumes nothing.
-use mathlib.Core.Bool.{Bool, true, false, ◌&&◌, ◌||◌, not, true≢false}
+use mathlib.Core.Bool.{Bool, true, false, ◌&&◌, ◌||◌, not, or-false}
 use mathlib.Core.List.{[]}
-use mathlib.Core.Path.{◌≡◌, ◌∙◌, refl, sym, ap, subst}
+use mathlib.Core.Path.{◌≡◌, ◌∙◌, refl, sym, subst}
 use Prim.Native.Nat.{ℕ, zero, suc, ◌≤◌, ◌<◌}
 use native.Mathlib.Omega.{arith}
 use lib.Dec.{T, eqb, eqb→eq}
@@ -13,14 +13,7 @@ use Rattle.path.proofs.Laws.{and_left, and_right, and_both}
 use Rattle.model.specs.Rules.{target_ok}
 use Rattle.layout.specs.Fields.{len_of, kind_of}
 use Rattle.layout.specs.Lawful.{slot_by}
-use Rattle.layout.specs.Kinds.{kind_numbered, kind_held}
-use Rattle.layout.specs.declared.kind.Kind.{Kind}
-use Rattle.layout.specs.declared.kind.Kind.TheVariants.{Directory, File, Link}
-use Rattle.std.specs.Prelude.{Option, Some, None}
-use Rattle.std.specs.Option.{MatchOption, is_some}
 use Rattle.lawful_limits.specs.Settles.{Settles}
-use Rattle.layout.proofs.Kinded.{kind-is}
-use Rattle.layout.specs.contracts.kind.KindPartialEq.TheImpl.{eq-value}
 use Rattle.lawful_slots.specs.Uses.{entry_by, entry_word}
 
 -- a slot that is named twice is wrong
@@ -40,33 +33,19 @@ twice-wrong k h u held l t = go k t
     go (suc (suc (suc zero))) t = subst T f (and_left (eqb u 1) (not held) (and_right (target_ok []) (eqb u 1 && not held) t))
     go (suc (suc (suc (suc k)))) t = t
 
--- the test of a word by its kind
-abbrev pub test_of : ℕ → Kind → Bool
-test_of h k = not (eq-value.it k Directory) || eqb (len_of h) 0
-
--- where it has none, it is none of an entry's slot
-pub no-word : (h : ℕ) → None ≡ kind_held h → false ≡ entry_word h
+-- the test of the word of an entry's slot
+pub entry-word : (h : ℕ) → ((eqb (kind_of h) 1 && eqb (len_of h) 0) || eqb (kind_of h) 2) || eqb (kind_of h) 3 ≡ entry_word h
 unfolding entry_word
-no-word h e = go (kind_of h) e
+entry-word h = go (kind_of h)
   where
-    go : (n : ℕ) → None ≡ kind_numbered n → false ≡ entry_by n h
-    go zero e = refl
-    go (suc zero) e = absurd (true≢false (ap is_some (sym e)))
-    go (suc (suc zero)) e = absurd (true≢false (ap is_some (sym e)))
-    go (suc (suc (suc zero))) e = absurd (true≢false (ap is_some (sym e)))
-    go (suc (suc (suc (suc k)))) e = refl
-
--- where it has one, by the test
-pub kind-word : (h : ℕ) (k : Kind) → Some k ≡ kind_held h → test_of h k ≡ entry_word h
-unfolding entry_word
-kind-word h Directory e = rw (kind-is Directory h e refl refl) refl
-kind-word h File e = rw (kind-is File h e refl refl) refl
-kind-word h Link e = rw (kind-is Link h e refl refl) refl
-
--- by an answer of `is_some_and`
-pub entry-word : (h : ℕ) (o : Option Kind) {r : Bool} → o ≡ kind_held h → MatchOption o (r ≡ false) (λ k. r ≡ test_of h k) → r ≡ entry_word h
-entry-word h None q e = e ∙ no-word h q
-entry-word h (Some k) q e = e ∙ kind-word h k q
+    go : (k : ℕ) → ((eqb k 1 && eqb (len_of h) 0) || eqb k 2) || eqb k 3 ≡ entry_by k h
+    go zero = refl
+    go (suc zero) = or-false (eqb (len_of h) 0 || false) ∙ or-false (eqb (len_of h) 0)
+    go (suc (suc zero)) = refl
+    go (suc (suc (suc zero))) = refl
+    go (suc (suc (suc (suc k)))) =
+        let n = suc (suc (suc (suc k))) in
+        rw (ne_eqb n 1 (λ e. omega arith), ne_eqb n 2 (λ e. omega arith), ne_eqb n 3 (λ e. omega arith))
 
 -- a word that is none of an entry's slot
 pub word-wrong : (h u : ℕ) (held : Bool) → entry_word h ≡ false → 1 ≤ u → T (slot_by (kind_of h) h u held []) → ⊥

@@ -6,13 +6,17 @@ ghost use Rattle.slots.specs.Uses.{Within};
 ghost use Rattle.lawful_slots.specs.Uses.{filled, entry_word, NamedBy, OpenedBy};
 
 use layout::kind::Kind;
-use layout::{FILE_NUMBERS, MOST_SLOTS, len_of, slot_held, slot_of};
+use layout::{FILE_NUMBERS, MOST_SLOTS, kind_of, len_of, slot_held, slot_of};
 
 // Whether the word can be that of an entry's slot: a directory's, which has no bytes, a file's or a link's.
+// kept: the kind as a number; by `Kind::of` a chain of 511 entries takes 10.04 ns an entry for 8.55, and its goal is 10 (bench/store.c).
 fn entry_word(h: u64) -> bool
     ensures { result ≡ entry_word h }
 {
-    Kind::of(h).is_some_and(|kind| kind != Kind::Directory || len_of(h) == 0)
+    let kind = kind_of(h);
+    ((kind == Kind::Directory.code()) & (len_of(h) == 0))
+        | (kind == Kind::File.code())
+        | (kind == Kind::Link.code())
 }
 
 // Takes the slot of each record; false where one is taken already, or its word is none of an entry's.
