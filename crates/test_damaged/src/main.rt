@@ -12,9 +12,10 @@ mod place;
 mod store;
 mod tried;
 
+use crate::store::Case;
 use std::alloc::Global;
 use std::io::{self, BufWriter, Write};
-use test_fields::lines;
+use test_fields::lines_in;
 use test_shown::read::input;
 
 // A case, and what says it in words: that stands behind a colon and its space. A line of one byte says itself.
@@ -30,12 +31,13 @@ fn split(line: &[u8]) -> (&[u8], &[u8]) {
 }
 
 fn cases<W: Write>(alloc: Global, out: &mut W, text: &[u8]) -> io::Result<()> {
-    for line in lines(alloc, text)?.iter() {
+    let mut case = Case::longer(alloc)?;
+    for line in lines_in(text) {
         if line.starts_with(b"#") {
             continue;
         }
-        let (case, words) = split(line);
-        tried::tried(alloc, out, case, words)?;
+        let (said, words) = split(line);
+        tried::tried(out, &mut case, said, words)?;
     }
     Ok(())
 }
@@ -44,7 +46,8 @@ fn main(rt: HostRuntime) -> io::Result<()> {
     let mut out = BufWriter::new(rt.alloc(), io::writer(&rt))?;
     tried::shown_k(rt.alloc(), &mut out)?;
     out.flush()?;
-    let text = input(rt.alloc(), &mut rt.reader())?;
-    cases(rt.alloc(), &mut out, &text)?;
+    let mut space = [0u8; 65536];
+    let length = input(&mut rt.reader(), &mut space)?;
+    cases(rt.alloc(), &mut out, &space[..length])?;
     out.flush()
 }

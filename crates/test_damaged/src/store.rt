@@ -38,15 +38,19 @@ fn put<T: Drop>(slice: &mut [T], at: usize, value: T) {
 
 // As many of the values as there is room for, from `from` on.
 fn put_all<T: Copy>(slice: &mut [T], from: usize, values: &[T]) {
-    for (place, value) in slice.iter_mut().skip(from).zip(values) {
-        *place = *value;
+    if let Some(rest) = slice.get_mut(from..) {
+        for (place, value) in rest.iter_mut().zip(values) {
+            *place = *value;
+        }
     }
 }
 
 // n letters, at most 1,100.
 fn put_letters(slice: &mut [u8], from: usize, n: usize) {
-    for place in slice.iter_mut().skip(from).take(n.min(1100)) {
-        *place = b'a';
+    if let Some(rest) = slice.get_mut(from..) {
+        for place in rest.iter_mut().take(n.min(1100)) {
+            *place = b'a';
+        }
     }
 }
 
@@ -58,36 +62,59 @@ const LENGTHS: [usize; 6] = [102, 16, 48, 192, 33792, 256];
 pub struct Case {
     pub store: Store,
     lengths: [usize; 6],
+    // Whether a time may be another than it was made with.
+    times_changed: bool,
 }
 
 impl Case {
-    // Set up for 16 entries and 256 bytes, in slices of those lengths. Set up writes no slot: each has the word `head`, and times of 0.
-    fn set_up(alloc: Global, lengths: [usize; 6], head: u64) -> Result<Case, AllocError> {
-        let mut store = Store::new(alloc, lengths, head, 0)?;
-        let _ = setup::set_up(
-            &mut store.words,
-            &store.records,
-            &store.heads,
-            &store.times,
-            &store.paths,
-            &store.bytes,
-            16,
-            256,
-        );
-        Ok(Case {
-            store,
+    // In slices of those lengths. Set up writes no slot: each has the word `head`, and times of 0.
+    fn new(alloc: Global, lengths: [usize; 6], head: u64) -> Result<Case, AllocError> {
+        let mut case = Case {
+            store: Store::new(alloc, lengths, head, 0)?,
             lengths: LENGTHS,
-        })
+            times_changed: false,
+        };
+        case.set_up();
+        Ok(case)
+    }
+
+    // For 16 entries and 256 bytes.
+    fn set_up(&mut self) {
+        let Store {
+            words,
+            records,
+            heads,
+            times,
+            paths,
+            bytes,
+        } = &mut self.store;
+        let _ = setup::set_up(words, records, heads, times, paths, bytes, 16, 256);
     }
 
     // No longer than it has to be.
     pub fn exact(alloc: Global) -> Result<Case, AllocError> {
-        Case::set_up(alloc, LENGTHS, 77)
+        Case::new(alloc, LENGTHS, 77)
     }
 
-    // Longer than it has to be.
+    // Longer than it has to be, with slots of 0.
     pub fn longer(alloc: Global) -> Result<Case, AllocError> {
-        Case::set_up(alloc, [103, 4097, 4129, 16516, 33793, 4096], 0)
+        Case::new(alloc, [103, 4097, 4129, 16516, 33793, 4096], 0)
+    }
+
+    // As `longer` made it: the changes of one case are not those of the next, and none asks for memory. The times are more than half of
+    // the bytes, and few cases change one.
+    pub fn renew(&mut self) {
+        self.store.words.fill(77);
+        self.store.records.fill(77);
+        self.store.heads.fill(0);
+        if self.times_changed {
+            self.store.times.fill(0);
+            self.times_changed = false;
+        }
+        self.store.paths.fill(b'?');
+        self.store.bytes.fill(b'?');
+        self.lengths = LENGTHS;
+        self.set_up();
     }
 
     // What it holds before the changes, in what set up has left.
@@ -140,7 +167,10 @@ impl Case {
             Place::Words => put(&mut self.store.words, at, value),
             Place::Records => put(&mut self.store.records, at, value),
             Place::Heads => put(&mut self.store.heads, at, value),
-            Place::Times => put(&mut self.store.times, at, (value % (1 << 63)) as i64),
+            Place::Times => {
+                self.times_changed = true;
+                put(&mut self.store.times, at, (value % (1 << 63)) as i64);
+            }
             Place::Paths => put(&mut self.store.paths, at, (value % 256) as u8),
             Place::Bytes => put(&mut self.store.bytes, at, (value % 256) as u8),
             Place::Length => put(&mut self.lengths, at, value as usize),

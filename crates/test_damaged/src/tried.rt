@@ -3,11 +3,11 @@ use crate::place::{Holds, Place};
 use crate::store::Case;
 use std::alloc::Global;
 use std::io::{Result, Write};
-use test_fields::{field, fields};
+use test_fields::field;
 use test_shown::read::number;
 
-// A line of more fields than 4,096 spaces split changes nothing.
-const MOST_FIELDS: usize = 4097;
+// A line of more spaces changes nothing.
+const MOST_SPACES: usize = 4096;
 
 // What the test says of a case, which is about a rule or about none.
 fn say_case<W: Write>(out: &mut W, rule: Option<u64>, what: &[u8], case: &Case) -> Result<()> {
@@ -23,32 +23,46 @@ fn say_case<W: Write>(out: &mut W, rule: Option<u64>, what: &[u8], case: &Case) 
 }
 
 // A change: its place, its index and its value.
-fn change<W: Write>(out: &mut W, case: &mut Case, fields: &[&[u8]]) -> Result<()> {
-    let [place, at, value @ ..] = fields else {
-        return Ok(());
-    };
+fn change<W: Write>(
+    out: &mut W,
+    case: &mut Case,
+    place: &[u8],
+    at: &[u8],
+    value: &[u8],
+) -> Result<()> {
     let Some(place) = Place::named(place) else {
         return write!(out, "? ");
     };
-    case.change(place, number(at) as usize, number(field(value, 0)));
+    case.change(place, number(at) as usize, number(value));
     Ok(())
 }
 
-// One case: a line's fields, and what it says in words.
-pub fn tried<W: Write>(alloc: Global, out: &mut W, line: &[u8], what: &[u8]) -> Result<()> {
-    let fields = fields(alloc, line)?;
-    let mut case = Case::longer(alloc)?;
-    match Holds::named(field(&fields, 1)) {
+// The changes of a line, which stand behind its first two fields. The last may have no value: that is 0.
+fn change_all<W: Write>(out: &mut W, case: &mut Case, line: &[u8]) -> Result<()> {
+    let spaces = line.iter().filter(|byte| **byte == b' ').count();
+    if spaces > MOST_SPACES {
+        return Ok(());
+    }
+    let mut fields = line.split(|byte| *byte == b' ').skip(2);
+    for _ in (2..spaces).step_by(3) {
+        let place = fields.next().unwrap_or_default();
+        let at = fields.next().unwrap_or_default();
+        let value = fields.next().unwrap_or_default();
+        change(out, case, place, at, value)?;
+    }
+    Ok(())
+}
+
+// One case, in a store that cases before it may have changed: a line's fields, and what it says in words.
+pub fn tried<W: Write>(out: &mut W, case: &mut Case, line: &[u8], what: &[u8]) -> Result<()> {
+    case.renew();
+    match Holds::named(field(line, 1)) {
         Some(holds) => case.hold(holds),
         None => write!(out, "? ")?,
     }
-    if fields.len() <= MOST_FIELDS {
-        for change_fields in fields.get(2..).unwrap_or_default().chunks(3) {
-            change(out, &mut case, change_fields)?;
-        }
-    }
-    let rule = Some(number(field(&fields, 0))).filter(|rule| *rule != 0);
-    say_case(out, rule, what, &case)
+    change_all(out, case, line)?;
+    let rule = Some(number(field(line, 0))).filter(|rule| *rule != 0);
+    say_case(out, rule, what, case)
 }
 
 // Tree K as the page has it, read back, and what the test says of it.

@@ -63,7 +63,7 @@ pub enum Edit {
 
 // The fields of a line, read as what an edit takes; a field that is not there is 0, or no bytes.
 #[derive(Clone, Copy)]
-struct Line<'a>(&'a [&'a [u8]]);
+struct Line<'a>(&'a [u8]);
 
 impl Line<'_> {
     fn value(self, k: usize) -> u64 {
@@ -99,12 +99,12 @@ impl Line<'_> {
 }
 
 // The edit that the first field names, on the others.
-impl TryFrom<&[&[u8]]> for Edit {
+impl TryFrom<&[u8]> for Edit {
     type Error = Malformed;
 
-    fn try_from(fields: &[&[u8]]) -> Result<Edit, Malformed> {
-        let line = Line(fields);
-        let edit = match field(fields, 0) {
+    fn try_from(text: &[u8]) -> Result<Edit, Malformed> {
+        let line = Line(text);
+        let edit = match field(text, 0) {
             b"root" => Edit::Root {
                 mode: line.mode(1),
                 time: line.time(2),

@@ -23,21 +23,20 @@ use crate::edited::{make, set_up};
 use crate::shown::Shown;
 use std::alloc::Global;
 use std::io::{self, BufWriter, Write};
-use test_fields::{fields, lines};
+use test_fields::lines_in;
 use test_shown::decode::Malformed;
 use test_shown::read::input;
 
 // Each line and whether its edit was made, and where it was, the store.
 fn edits<W: Write>(alloc: Global, out: &mut W, text: &[u8]) -> io::Result<()> {
     let mut store = set_up(alloc)?;
-    for line in lines(alloc, text)?.iter() {
+    for line in lines_in(text) {
         if line.starts_with(b"#") {
             continue;
         }
         write!(out, "> ")?;
         out.write_all(line)?;
-        let fields = fields(alloc, line)?;
-        let made = match Edit::try_from(fields.as_slice()) {
+        let made = match Edit::try_from(line) {
             Ok(edit) => make(&mut store, edit),
             Err(Malformed) => false,
         };
@@ -50,8 +49,9 @@ fn edits<W: Write>(alloc: Global, out: &mut W, text: &[u8]) -> io::Result<()> {
 }
 
 fn main(rt: HostRuntime) -> io::Result<()> {
-    let text = input(rt.alloc(), &mut rt.reader())?;
+    let mut space = [0u8; 65536];
+    let length = input(&mut rt.reader(), &mut space)?;
     let mut out = BufWriter::new(rt.alloc(), io::writer(&rt))?;
-    edits(rt.alloc(), &mut out, &text)?;
+    edits(rt.alloc(), &mut out, &space[..length])?;
     out.flush()
 }

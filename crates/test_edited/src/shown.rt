@@ -14,8 +14,7 @@ impl fmt::Display for Times<'_> {
     fn fmt<W: fmt::Write>(&self, f: &mut fmt::Formatter<W>) -> fmt::Result {
         let slot = self.slot;
         write!(f, " [{slot}:")?;
-        let times = self.store.times.chunks_exact(4).nth(slot);
-        for time in times.unwrap_or_default() {
+        for time in part(&self.store.times, slot.saturating_mul(4), 4) {
             write!(f, " {time}")?;
         }
         write!(f, "]")
@@ -35,8 +34,9 @@ impl fmt::Display for Cell<'_> {
         if self.length == 0 {
             return f.write_str("/");
         }
-        let cell = self.store.paths.chunks_exact(CELL_BYTES).nth(self.cell);
-        let path = Short(part(cell.unwrap_or_default(), 0, self.length as usize));
+        let from = self.cell.saturating_mul(CELL_BYTES);
+        let cell = part(&self.store.paths, from, CELL_BYTES);
+        let path = Short(part(cell, 0, self.length as usize));
         write!(f, "{path}")
     }
 }

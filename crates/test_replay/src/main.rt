@@ -11,41 +11,41 @@ mod question;
 
 use crate::answers::say_answer;
 use crate::question::Question;
-use std::alloc::Global;
 use std::io::{self, BufWriter, Write};
-use test_fields::{fields, lines};
+use test_fields::lines_in;
 use test_shown::decode::Malformed;
-use test_shown::read::{MOST, input};
+use test_shown::read::input;
 
 // The answer to a line of any form and length.
-fn answer<W: Write>(alloc: Global, out: &mut W, line: &[u8]) -> io::Result<()> {
+fn answer<W: Write>(out: &mut W, line: &[u8]) -> io::Result<()> {
     if line.len() > 4096 {
         return write!(out, "?");
     }
-    match Question::try_from(fields(alloc, line)?.as_slice()) {
+    match Question::try_from(line) {
         Ok(question) => say_answer(out, &question),
         Err(Malformed) => write!(out, "?"),
     }
 }
 
 // Each line with its number and its answer.
-fn answer_all<W: Write>(alloc: Global, out: &mut W, text: &[u8]) -> io::Result<()> {
-    for (i, line) in lines(alloc, text)?.iter().enumerate() {
+fn answer_all<W: Write>(out: &mut W, text: &[u8]) -> io::Result<()> {
+    for (i, line) in lines_in(text).enumerate() {
         if line.starts_with(b"#") {
             continue;
         }
         write!(out, "{} ", i + 1)?;
-        answer(alloc, out, line)?;
+        answer(out, line)?;
         writeln!(out)?;
     }
     Ok(())
 }
 
 fn main(rt: HostRuntime) -> io::Result<()> {
-    let text = input(rt.alloc(), &mut rt.reader())?;
+    let mut space = [0u8; 65536];
+    let length = input(&mut rt.reader(), &mut space)?;
     let mut out = BufWriter::new(rt.alloc(), io::writer(&rt))?;
-    answer_all(rt.alloc(), &mut out, &text)?;
-    if text.len() as u64 == MOST {
+    answer_all(&mut out, &space[..length])?;
+    if length == space.len() {
         writeln!(out, "more than 65,535 bytes: the rest is not read")?;
     }
     out.flush()

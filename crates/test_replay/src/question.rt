@@ -1,4 +1,5 @@
 // What a line asks.
+use test_fields::field;
 use test_shown::decode::{Bytes, Malformed, decode, decode_behind};
 
 #[derive(Drop)]
@@ -39,24 +40,30 @@ fn link(dir: &[u8], name: &[u8], rest: &[u8], target: &[u8]) -> Result<Question,
 }
 
 // A line's fields: a word, and what it asks for.
-impl TryFrom<&[&[u8]]> for Question {
+impl TryFrom<&[u8]> for Question {
     type Error = Malformed;
 
-    fn try_from(fields: &[&[u8]]) -> Result<Question, Malformed> {
-        let question = match fields {
-            [b"text", text] => Question::Text(decode(text)?),
-            [b"lengths", text] => Question::Lengths(decode(text)?),
-            [b"norm", path] => Question::Norm(decode(path)?),
-            [b"raw", path] => Question::Raw(decode(path)?),
-            [b"abs", cwd, path] => Question::Abs {
-                cwd: decode(cwd)?,
-                path: decode(path)?,
+    fn try_from(line: &[u8]) -> Result<Question, Malformed> {
+        let spaces = line.iter().filter(|byte| **byte == b' ').count();
+        let question = match (field(line, 0), spaces) {
+            (b"text", 1) => Question::Text(decode(field(line, 1))?),
+            (b"lengths", 1) => Question::Lengths(decode(field(line, 1))?),
+            (b"norm", 1) => Question::Norm(decode(field(line, 1))?),
+            (b"raw", 1) => Question::Raw(decode(field(line, 1))?),
+            (b"abs", 2) => Question::Abs {
+                cwd: decode(field(line, 1))?,
+                path: decode(field(line, 2))?,
             },
-            [b"last", cwd, path] => Question::Last {
-                cwd: decode(cwd)?,
-                path: decode(path)?,
+            (b"last", 2) => Question::Last {
+                cwd: decode(field(line, 1))?,
+                path: decode(field(line, 2))?,
             },
-            [b"link", dir, name, rest, target] => link(dir, name, rest, target)?,
+            (b"link", 4) => link(
+                field(line, 1),
+                field(line, 2),
+                field(line, 3),
+                field(line, 4),
+            )?,
             _ => return Err(Malformed),
         };
         Ok(question)

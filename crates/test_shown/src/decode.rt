@@ -3,8 +3,11 @@ ghost use Rattle.std.specs.Prelude.{◌<◌, IfSome};
 
 use arrayvec::{ArrayVec, CapacityError};
 
-// What an argument stands for: at most 4,096 bytes.
-pub type Bytes = ArrayVec<u8, 4096>;
+// As many bytes as an argument stands for at most.
+const MOST: usize = 4096;
+
+// What an argument stands for.
+pub type Bytes = ArrayVec<u8, MOST>;
 
 // An argument of another form than the programs say, or one that stands for too many bytes.
 #[derive(Clone, Copy, Debug, PartialEq, Eq)]
@@ -12,6 +15,12 @@ pub struct Malformed;
 
 impl From<CapacityError<u8>> for Malformed {
     fn from(_: CapacityError<u8>) -> Malformed {
+        Malformed
+    }
+}
+
+impl From<CapacityError> for Malformed {
+    fn from(_: CapacityError) -> Malformed {
         Malformed
     }
 }
@@ -40,12 +49,11 @@ fn byte(high: u8, low: u8) -> Option<u8> {
     Some(hexadecimal(high)? * 16 + hexadecimal(low)?)
 }
 
-// The last byte once more, until it stands `count` times.
+// The last byte once more, until it stands `count` times: all at once, since a program may be given many long runs.
 fn repeat(bytes: &mut Bytes, count: u32) -> Result<(), Malformed> {
-    let last = *bytes.last().ok_or(Malformed)?;
-    for _ in 0..count.checked_sub(1).ok_or(Malformed)? {
-        bytes.try_push(last)?;
-    }
+    let run = [*bytes.last().ok_or(Malformed)?; MOST];
+    let more = count.checked_sub(1).ok_or(Malformed)? as usize;
+    bytes.try_extend_from_slice(run.get(..more).ok_or(Malformed)?)?;
     Ok(())
 }
 

@@ -8,14 +8,20 @@ pub mod tree;
 #[cfg(test)]
 mod tests {
     use crate::decode::{Malformed, decode};
-    use crate::read::{input, number};
+    use crate::read::{input, number, whole_input};
     use crate::text::{Mode, Short};
     use std::test::Fail;
 
     #[test]
     fn reads(rt: HostRuntime) -> Result<(), Fail> {
         let mut from = b"two words".as_slice();
-        assert!(rt; input(rt.alloc(), &mut from)?.as_slice() == b"two words".as_slice());
+        let mut into = [0u8; 5];
+        assert_eq!(rt; input(&mut from, &mut into)?, 5);
+        assert!(rt; into.as_slice() == b"two w".as_slice());
+        assert_eq!(rt; input(&mut from, &mut into)?, 4);
+        assert!(rt; into.as_slice() == b"ordsw".as_slice());
+        let mut from = b"two words".as_slice();
+        assert!(rt; whole_input(rt.alloc(), &mut from)?.as_slice() == b"two words".as_slice());
         assert_eq!(rt; number(b"0x1ff"), 511);
         assert_eq!(rt; number(b"420"), 420);
         Ok(())

@@ -1,5 +1,5 @@
 // What is read, and the numbers of a line.
-ghost use Rattle.std.specs.Prelude.{◌≡◌, IfOk, IfSome, take};
+ghost use Rattle.std.specs.Prelude.{◌≡◌, ◌≤◌, IfOk, IfSome, length, take};
 
 use std::alloc::Global;
 use std::io::{Read, Result};
@@ -7,12 +7,30 @@ use std::io::{Read, Result};
 // So many bytes of the input are read at most.
 pub const MOST: u64 = 65536;
 
-// The first bytes of what there is to read.
-pub fn input<R: Read>(alloc: Global, from: &mut R) -> Result<Vec<u8>>
-    ensures { IfSome (R.remaining from.old) (λ all. IfOk result (λ text. text.items ≡ take MOST all)) }
+// Reads until the slice is full or there is no more, and tells how many bytes.
+pub fn input<R: Read>(from: &mut R, into: &mut [u8]) -> Result<usize>
+    ensures { IfOk result (λ n. n ≤ length into.new) }
+{
+    let mut n = 0;
+    while n < into.len() {
+        let k = from.read(&mut into[n..])?;
+        if k == 0 {
+            break;
+        }
+        n += k;
+    }
+    Ok(n)
+}
+
+// The first bytes of what there is to read, in memory of their own.
+pub fn whole_input<R: Read>(alloc: Global, from: &mut R) -> Result<Vec<u8>>
+    ensures bytes { IfSome (R.remaining from.old) (λ all. IfOk result (λ text. text.items ≡ take MOST all)) }
+    ensures bound { IfOk result (λ text. length text.items ≤ MOST) }
 {
     let mut text = Vec::new(alloc);
     from.take(MOST).read_to_end(&mut text)?;
+    // No reader gives more: said here, where a reader whose bytes are not known has no clause that says so.
+    text.truncate(MOST as usize);
     Ok(text)
 }
 

@@ -7,8 +7,8 @@ use edit_entry::made::{Fresh, Made};
 use layout::EXTENT_AT;
 use layout::slices::Slices;
 use test_tried::asked::ready;
-use test_tried::entry::{insert_in, remove_in};
-use test_tried::place::{insertable, spot_in};
+use test_tried::entry::{insert_made, remove_in};
+use test_tried::place::{may_insert, spot_in};
 use test_tried::slot::contents_in;
 
 // What comes before an insertion: the place of each name, of which each has 10 bytes, in the directory at record dir, and whether
@@ -39,7 +39,7 @@ pub extern "C" fn timed_place(
     };
     let made = Made::File(text);
     for (i, name) in names.chunks_exact(10).enumerate() {
-        if spot_in(lent, dir, name).is_none() || !insertable(lent, name, made) {
+        if spot_in(lent, dir, name).is_none() || !may_insert(lent, name, made) {
             return i;
         }
     }
@@ -71,7 +71,7 @@ pub extern "C" fn timed_insert(
             times,
             bytes,
         };
-        if !insert_in(lent, heads, paths, dir, name, made, new) {
+        if !insert_made(lent, heads, paths, dir, name, made, new) {
             return i;
         }
     }

@@ -8,7 +8,10 @@ use Rattle.layout.specs.Rows.{name_total}
 use Rattle.layout.specs.Slots.{total}
 use Rattle.layout.specs.Store.{Store, most, room, count, live}
 use Rattle.ask_find.specs.Paths.{path_at}
-use Rattle.edit_entry.specs.Insertion.{Vacancy}
+use Rattle.layout.specs.Kinds.{code_of}
+use Rattle.edit_entry.specs.declared.made.Made.{Made}
+use Rattle.edit_entry.specs.Made.{kind_made, bytes_made}
+use Rattle.edit_entry.specs.Insertion.{Insertable, Vacancy}
 
 -- the lengths of the slices are what the limits ask
 pub record Whole (st : Store) : Type 0 where
@@ -27,6 +30,13 @@ Fits st free n = name_total (live st) + total st.heads + n ≤ room st + free
 pub record Spotted (st : Store) (i k depth : ℕ) (x : Name) : Type 0 where
   pub after : i < k
   pub vacant : Vacancy st k depth (path_at st i) x
+
+-- there is an entry of that kind, as a number, with those bytes, and the limits allow it under the name x
+pub record InsertableAs (st : Store) (x : Name) (kind : ℕ) (bytes : Bytes) : Type 0 where
+  pub made : Made
+  pub of_kind : code_of (kind_made made) ≡ kind
+  pub with_bytes : bytes_made made ≡ bytes
+  pub allowed : Insertable st x made
 
 -- record i is there and not the root's, and the byte limit leaves room for a name of n bytes in place of its own
 pub record Renamable (st : Store) (i n : ℕ) : Type 0 where

@@ -8,7 +8,7 @@ ghost use Rattle.slots.specs.Free.{HasFree};
 ghost use Rattle.edit_room.specs.Extents.{Roomy};
 
 use crate::asked::ready;
-use crate::place::{insertable, made_of, spot_in};
+use crate::place::{made_of, may_insert, spot_in};
 use edit_entry::insert::{insert_entry, insert_root};
 use edit_entry::lent::Entries;
 use edit_entry::made::{Fresh, Made};
@@ -75,7 +75,7 @@ fn insert_exact(
     let Some(gap) = spot_in(lent, dir, name) else {
         return false;
     };
-    if !insertable(lent, name, made) {
+    if !may_insert(lent, name, made) {
         return false;
     }
     let left = Entries {
@@ -89,7 +89,7 @@ fn insert_exact(
 }
 
 // The same, with room behind the words of the slots so far.
-pub fn insert_in(
+pub fn insert_made(
     l: Entries,
     heads: &mut [u64],
     paths: &[u8],
@@ -120,7 +120,42 @@ pub fn insert_in(
     done
 }
 
+// The same, of an entry of that kind with those bytes; one of a kind that is none is not made.
 // kept: the kind is a number, as in `made_of`.
+pub fn insert_in(
+    l: Entries,
+    heads: &mut [u64],
+    paths: &[u8],
+    dir: usize,
+    name: &[u8],
+    kind: u64,
+    mode: u32,
+    time: i64,
+    text: &[u8],
+) -> bool
+    requires { Roomy (lends l.words.now l.records.now heads.old l.times.now paths.now l.bytes.now) }
+    ensures { Roomy (lends l.exit.0.now l.exit.1.0.now heads.new l.exit.1.1.0.now paths.now l.exit.1.1.1.0.now) }
+{
+    let Entries {
+        words,
+        records,
+        times,
+        bytes,
+    } = l;
+    let Some(made) = made_of(kind, text) else {
+        return false;
+    };
+    let new = Fresh { mode, time };
+    let left = Entries {
+        words,
+        records,
+        times,
+        bytes,
+    };
+    let done = insert_made(left, heads, paths, dir, name, made, new);
+    done
+}
+
 pub fn try_insert(
     words: &mut [u64],
     records: &mut [u64],
@@ -138,17 +173,13 @@ pub fn try_insert(
     if !ready(words, records, heads, times, paths, bytes) {
         return false;
     }
-    let Some(made) = made_of(kind, text) else {
-        return false;
-    };
-    let new = Fresh { mode, time };
     let l = Entries {
         words,
         records,
         times,
         bytes,
     };
-    let done = insert_in(l, heads, paths, dir, name, made, new);
+    let done = insert_in(l, heads, paths, dir, name, kind, mode, time, text);
     done
 }
 

@@ -1,5 +1,5 @@
 // What an insertion asks.
-ghost use Rattle.std.specs.Prelude.{IfSome, true, ◌≡◌, ◌<◌, ◌≤◌, T, length};
+ghost use Rattle.std.specs.Prelude.{[], IfSome, IfNone, true, ◌≡◌, ◌≢◌, ◌<◌, ◌≤◌, T, length};
 ghost use Rattle.model.specs.Rules.{name_ok};
 ghost use Rattle.layout.specs.Kinds.{code_of};
 ghost use Rattle.layout.specs.Numbers.{most_entries};
@@ -10,7 +10,7 @@ ghost use Rattle.ask_find.specs.Paths.{slot_at, path_at};
 ghost use Rattle.ask_find.specs.Spots.{Looks};
 ghost use Rattle.edit_entry.specs.Made.{kind_made, bytes_made, Holds};
 ghost use Rattle.edit_entry.specs.Insertion.{Insertable};
-ghost use Rattle.test_tried.specs.Tried.{Spotted};
+ghost use Rattle.test_tried.specs.Tried.{InsertableAs, Spotted};
 
 use crate::asked::room_for;
 use ask_find::{Gap, Spot};
@@ -69,7 +69,8 @@ pub fn spot_in(lent: Slices, dir: usize, name: &[u8]) -> Option<Gap>
 // What an entry of that kind with those bytes is: 1 is a directory, which has none, 2 a file, 3 a link.
 // kept: the kind is a number, since any may be asked for and one that is none is refused; a Kind would ask more of callers.
 pub fn made_of(kind: u64, text: &[u8]) -> Option<Made<'_>>
-    ensures { IfSome result (λ m. (code_of (kind_made m) ≡ kind) × (bytes_made m ≡ text.now)) }
+    ensures some { IfSome result (λ m. (code_of (kind_made m) ≡ kind) × (bytes_made m ≡ text.now)) }
+    ensures none { IfNone result ((kind ≡ 1 → text.now ≢ []) × (kind ≢ 2) × (kind ≢ 3)) }
 {
     match kind {
         1 if text.is_empty() => Some(Made::Directory),
@@ -90,7 +91,7 @@ fn may_hold(made: Made) -> bool
 }
 
 // Whether the limits leave room for the entry.
-pub fn insertable(lent: Slices, name: &[u8], made: Made) -> bool
+pub fn may_insert(lent: Slices, name: &[u8], made: Made) -> bool
     requires { Lawful (lent_by lent) × (length name.now ≤ 255) }
     ensures { result ≡ true → Insertable (lent_by lent.entry) name.now made.entry }
 {
@@ -105,4 +106,15 @@ pub fn insertable(lent: Slices, name: &[u8], made: Made) -> bool
         return false;
     }
     room_for(lent, 0, name.len() + text.len())
+}
+
+// The same of an entry of that kind with those bytes. The kind is a number, as in `made_of`.
+pub fn insertable(lent: Slices, name: &[u8], kind: u64, text: &[u8]) -> bool
+    requires { Lawful (lent_by lent) × (length name.now ≤ 255) }
+    ensures { result ≡ true → InsertableAs (lent_by lent.entry) name.now kind text.now }
+{
+    match made_of(kind, text) {
+        Some(made) => may_insert(lent, name, made),
+        None => false,
+    }
 }
