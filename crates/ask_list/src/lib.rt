@@ -11,6 +11,7 @@ ghost use Rattle.ask_list.specs.Listed.{TellsBare, TellsCount, TellsLength, Tell
 mod entries;
 
 use ask_find::Spot;
+use blocks::copy_into;
 use entries::Entries;
 use layout::depth_of;
 
@@ -69,9 +70,8 @@ fn put_name(out: &mut [u8], at: usize, name: &[u8])
     requires { at + length name.now < length out.old }
     ensures { out.new ≡ named out.old at name.now }
 {
-    let e = at + name.len();
-    out[at..e].copy_from_slice(name);
-    out[e] = 0;
+    copy_into(out, at, name);
+    out[at + name.len()] = 0;
 }
 
 // Writes the names of the entries of the directory at the spot to out, in order, with a zero byte behind each.

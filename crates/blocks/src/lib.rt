@@ -34,12 +34,15 @@ pub fn shift<T: Copy>(s: &mut [T], from: usize, to: usize, k: usize)
     }
 }
 
-// Copies all of src over dst from index at.
+// Copies all of src over dst from index at. (Element by element: the library's copy_from_slice becomes a call of memmove, which a short
+// name pays for and which an archive for C would ask its surroundings for.)
 pub fn copy_into<T: Copy>(dst: &mut [T], at: usize, src: &[T])
     requires { at + length src.now ≤ length dst.old }
     ensures { dst.new ≡ paste dst.old at src.now (length src.now) }
 {
-    dst[at..at + src.len()].copy_from_slice(src);
+    for j in 0..src.len() {
+        dst[at + j] = src[j];
+    }
 }
 
 // Exchanges the parts of s from a to m and from m to e.

@@ -17,7 +17,7 @@ use op::parts::{Sizes, used};
 use op::ready::{Number, ready};
 use op_number::attributes::{close_on, set_length_on, set_mode_on, set_times_on};
 use op_number::metadata::metadata_on;
-use op_number::position::{Origin, read_on, seek_on};
+use op_number::position::{read_on, seek_on};
 use refusal::{Refusal, answer};
 
 // The number is open no more.
@@ -140,7 +140,7 @@ pub extern "C" fn jobtree_seek(
                 &heads[..used.heads],
                 &bytes[..used.bytes],
                 n as usize,
-                Origin::from(origin),
+                origin,
                 offset,
                 number,
             ))

@@ -9,7 +9,7 @@ use native.Mathlib.Omega.{arith}
 use lib.Dec.{T, eqb, leb, ltb, ltb→lt, leb→le}
 use lib.ListN.{length, take, drop, get_or, length-drop, drop_of_length-le}
 use lib.Seq.{drop-cons}
-use borrow.Author.Tests.{eq-eqb, ne_eqb, eqb-true}
+use borrow.Author.Tests.{eq-eqb, ne_eqb, le-leb, lt-leb, eqb-true}
 use Rattle.text.specs.Utf8.{Bytes, octets, text}
 use Rattle.path.specs.Path.{pieces, all_short, lengths_ok}
 use Rattle.path.proofs.Laws.{and_left, and_right, and_both}
@@ -87,6 +87,15 @@ module _ (words : List ℕ) (paths : Bytes) (n j : ℕ) where
   abbrev kept : Bool
   kept = kept_in paths (suc j) (get_or words (7 + 3 * j) 0)
 
+  pub number-closed : number ≡ 0 → T (number_in words paths n j)
+  number-closed z = rw (eq-eqb number 0 z) tt
+
+  pub number-far : (number ≡ 0 → ⊥) → n < number → T (number_in words paths n j) → ⊥
+  number-far z h t = rw (ne_eqb number 0 z, lt-leb number n h) at t
+
+  pub number-open : (number ≡ 0 → ⊥) → number ≤ n → (t : Bool) → t ≡ kept_in paths (j + 1) (get_or words (7 + 3 * j) 0) → number_in words paths n j ≡ t
+  number-open z h t e = rw (ne_eqb number 0 z, le-leb number n h) (sym (e ∙ ap (λ (i : ℕ). kept_in paths i (get_or words (7 + 3 * j) 0)) (add-one j)))
+
   pub number-stands : T (number_in words paths n j) → number ≤ n
   number-stands t = go (eqb number 0) refl t
     where
@@ -98,12 +107,18 @@ module _ (words : List ℕ) (paths : Bytes) (n j : ℕ) where
 pub kept-stand : (words : List ℕ) (paths : Bytes) (n : ℕ) → n ≤ 4128 → Kept words paths n → Standing words
 kept-stand words paths n l k j h = omega (arith, number-stands words paths n j (k.numbers j h))
 
+-- the current directory decides
+pub kept_here : (words : List ℕ) (paths : Bytes) (n : ℕ) → ((j : ℕ) → j < 32 → T (number_in words paths n j))
+    → (r : Bool) → r ≡ kept_in paths 0 (get_or words 4 0) → Settles r (Kept words paths n)
+kept_here words paths n f true e = record { numbers = f; here = subst T e tt }
+kept_here words paths n f false e = λ k. subst T (sym e) k.here
+
 -- ---- links
 
-link_other : (kind : ℕ) (s : Bytes) → (kind ≡ 3 → ⊥) → T (link_by kind s)
+pub link_other : (kind : ℕ) (s : Bytes) → (kind ≡ 3 → ⊥) → T (link_by kind s)
 link_other kind s n = rw (ne_eqb kind 3 n) tt
 
-link_is : (kind : ℕ) (s : Bytes) → kind ≡ 3 → link_by kind s ≡ target_ok s
+pub link_is : (kind : ℕ) (s : Bytes) → kind ≡ 3 → link_by kind s ≡ target_ok s
 link_is kind s e = rw (eq-eqb kind 3 e)
 
 -- the slots from i on decide, and their bytes stand in t

@@ -3,18 +3,39 @@
 use mathlib.Core.Bool.{Bool, true, false, ◌||◌}
 use mathlib.Core.List.{List}
 use mathlib.Core.Path.{◌≡◌, refl, sym, ap, ◌∙◌, subst}
-use Prim.Native.Nat.{ℕ, zero, suc, ◌+◌, ◌*◌, ◌<◌}
+use Prim.Native.Nat.{ℕ, zero, suc, ◌+◌, ◌*◌, ◌≤◌, ◌<◌}
 use native.Mathlib.Omega.{arith}
 use lib.Dec.{T, eqb}
-use lib.ListN.{take, get_or}
+use lib.ListN.{length, take, get_or}
 use lib.Seq.{get_or-take, length-take-le, take-take}
+use Rattle.text.specs.Utf8.{Bytes}
+use Rattle.layout.specs.Rows.{rows, name_total}
+use Rattle.layout.specs.Slots.{total}
 use Rattle.layout.specs.Store.{Store, most, room, count, extent, live, slots_for, kind_at, bytes_at, core}
-use Rattle.layout.specs.Lawful.{held_from, slot_by, slot_ok, Exact, Lawful, Long, Keeps}
+use Rattle.layout.specs.Lawful.{rows_ok, held_from, slot_by, slot_ok, Exact, Lawful, Long, Keeps}
 use Rattle.slots.proofs.Rowed.{uses-rows}
 use Rattle.lawful_limits.specs.Settles.{Settles}
 use Rattle.slots.specs.Uses.{uses_in, stands_from}
+use Rattle.lawful_entries.specs.Fits.{kind_in}
 use Rattle.lawful_limits.specs.Limits.{Limits}
-use Rattle.lawful.specs.Parts.{Parts}
+use Rattle.lawful.specs.Parts.{Kept, SlotsHeld, Parts}
+
+-- ---- the parts
+
+module _ (words recs heads : List ℕ) (paths bs : Bytes) where
+  pub parts-space : length bs < name_total recs + total heads → Parts words recs heads paths bs → ⊥
+  parts-space h p = omega (arith, p.space)
+
+  pub parts-entries : rows_ok (kind_in heads) (length heads) (rows recs bs) ≡ false → Parts words recs heads paths bs → ⊥
+  parts-entries e p = subst T e p.entries
+
+  pub parts-kept : (Kept words paths (length heads) → ⊥) → Parts words recs heads paths bs → ⊥
+  parts-kept n p = n p.kept
+
+  pub parts-slots : name_total recs + total heads ≤ length bs → T (rows_ok (kind_in heads) (length heads) (rows recs bs)) → Kept words paths (length heads)
+      → (r : Bool) → Settles r (SlotsHeld words recs heads bs) → Settles r (Parts words recs heads paths bs)
+  parts-slots s e k true h = record { space = s; entries = e; kept = k; slots = h }
+  parts-slots s e k false h = λ p. h p.slots
 
 -- ---- the users of a slot
 
@@ -90,6 +111,9 @@ module _ (st : Store) where
     umask = omega (arith, word 3 (omega arith), p.1.umask);
     slotted = omega (arith, word 0 (omega arith), word 101 (omega arith), p.1.slotted);
   })
+
+  pub pass-lengths : (Long st → ⊥) → Keeps st → ⊥
+  pass-lengths n p = n p.0
 
   module _ (m : Limits st.words) (l : Long st) where
     -- the records of the entries

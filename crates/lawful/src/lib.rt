@@ -37,7 +37,7 @@ fn parts_ok(cut: Slices) -> bool
 fn rules_ok(s: Slices) -> bool
     ensures { Settles result (Keeps (lent_by s.entry)) }
 {
-    if !lawful_limits::limits_ok(s.words) || !lawful_limits::lengths_ok(s) {
+    if !lawful_limits::limits_ok(s.words) || !lawful_limits::is_long(s) {
         return false;
     }
     let slots = s.words[EXTENT_AT] as usize;

@@ -13,6 +13,18 @@ pub record Limits (ws : List ℕ) : Type 0 where
   pub umask : get_or ws mask_at 0 < 2 ^ 32
   pub slotted : get_or ws extent_at 0 ≤ get_or ws most_at 0 + file_numbers
 
--- the records, the slots' words and times and the cells are long enough for an entry limit
+-- slices of those lengths hold the records, the slots' words and times and the cells of an entry limit
+abbrev pub fits : ℕ → (rs hs ts ps : ℕ) → Bool
+fits m rs hs ts ps = leb m rs && (leb (slots_for m) hs && (leb (4 * slots_for m) ts && leb paths_bytes ps))
+
+-- the slices of a store do
 abbrev pub lengths_fit : Store → ℕ → Bool
-lengths_fit st m = leb m (length st.records) && (leb (slots_for m) (length st.heads) && (leb (4 * slots_for m) (length st.times) && leb paths_bytes (length st.paths)))
+lengths_fit st m = fits m (length st.records) (length st.heads) (length st.times) (length st.paths)
+
+-- the lengths of the other slices are what the limits ask, or more
+pub record Lengths (ws : List ℕ) (rs hs ts ps bs : ℕ) : Type 0 where
+  pub records : get_or ws most_at 0 ≤ rs
+  pub heads : get_or ws most_at 0 + file_numbers ≤ hs
+  pub times : 4 * (get_or ws most_at 0 + file_numbers) ≤ ts
+  pub paths : paths_bytes ≤ ps
+  pub bytes : get_or ws room_at 0 ≤ bs

@@ -5,7 +5,7 @@ ghost use Rattle.layout.specs.Numbers.{most_entries};
 ghost use Rattle.layout.specs.Lawful.{Long};
 ghost use Rattle.layout.specs.Lent.{lent_by};
 ghost use Rattle.lawful_limits.specs.Settles.{Settles};
-ghost use Rattle.lawful_limits.specs.Limits.{Limits, lengths_fit};
+ghost use Rattle.lawful_limits.specs.Limits.{Limits, Lengths, fits, lengths_fit};
 
 use layout::slices::Slices;
 use layout::{
@@ -28,21 +28,57 @@ pub fn limits_ok(words: &[u64]) -> bool
         && words[EXTENT_AT] <= most + BEYOND
 }
 
-// Whether the records, the slots' words and times and the cells are long enough for an entry limit.
+// Whether slices of those lengths hold the records, the slots' words and times and the cells of an entry limit.
+fn fits(most: usize, records: usize, heads: usize, times: usize, paths: usize) -> bool
+    requires { most ≤ most_entries }
+    ensures { result ≡ fits most records heads times paths }
+{
+    most <= records
+        && most + FILE_NUMBERS <= heads
+        && TIMES * (most + FILE_NUMBERS) <= times
+        && PATHS_BYTES <= paths
+}
+
+// The same of slices.
 pub fn lengths_fit(s: Slices, most: usize) -> bool
     requires { most ≤ most_entries }
     ensures { result ≡ lengths_fit (lent_by s.entry) most }
 {
-    most <= s.records.len()
-        && most + FILE_NUMBERS <= s.heads.len()
-        && TIMES * (most + FILE_NUMBERS) <= s.times.len()
-        && PATHS_BYTES <= s.paths.len()
+    fits(
+        most,
+        s.records.len(),
+        s.heads.len(),
+        s.times.len(),
+        s.paths.len(),
+    )
 }
 
-// Whether the other slices are as long as the limits ask, or longer.
-pub fn lengths_ok(s: Slices) -> bool
+// Whether slices of those lengths are as long as the limits ask, or longer. Any lengths may be asked for, of memory that is not there too.
+pub fn lengths_ok(
+    words: &[u64],
+    records: usize,
+    heads: usize,
+    times: usize,
+    paths: usize,
+    bytes: usize,
+) -> bool
+    requires { Limits words.now }
+    ensures { Settles result (Lengths words.now records heads times paths bytes) }
+{
+    fits(words[MOST_AT] as usize, records, heads, times, paths) && words[ROOM_AT] as usize <= bytes
+}
+
+// Whether the slices are.
+pub fn is_long(s: Slices) -> bool
     requires { Limits s.words.now }
     ensures { Settles result (Long (lent_by s.entry)) }
 {
-    lengths_fit(s, s.words[MOST_AT] as usize) && s.words[ROOM_AT] as usize <= s.bytes.len()
+    lengths_ok(
+        s.words,
+        s.records.len(),
+        s.heads.len(),
+        s.times.len(),
+        s.paths.len(),
+        s.bytes.len(),
+    )
 }

@@ -4,7 +4,7 @@
 -- Assumes nothing.
 use mathlib.Core.Bool.{Bool, true, false}
 use mathlib.Core.Path.{◌≡◌, refl, ◌∙◌}
-use Prim.Native.Nat.{ℕ, ◌+◌, ◌≤◌, ◌<◌}
+use Prim.Native.Nat.{ℕ, zero, suc, ◌+◌, ◌*◌, ◌≤◌, ◌<◌}
 use native.Mathlib.Omega.{arith}
 use lib.Dec.{ltb}
 use lib.ListN.{length, take, drop, get_or, length-drop, get_or-eq_default}
@@ -15,6 +15,33 @@ use Rattle.name_order.specs.Order.{order_of, number}
 use Rattle.std.specs.declared.cmp.Ordering.TheVariants.{Less}
 use Rattle.name_order.proofs.Orders.{order-short, order-less, past}
 use Rattle.name_order.proofs.Numbers.{Lower, lower}
+
+-- ---- one byte after the other
+
+pub number_none : (x : Bytes) → number 0 0 x ≡ 0
+unfolding number
+number_none x = refl
+
+pub number_next : (x : Bytes) (k : ℕ) → number k 0 x * 256 + get_or x k 0 ≡ number (suc k) 0 x
+unfolding number
+number_next x k = let e : 0 + k ≡ k = omega arith in rw e
+
+-- fewer bytes, a lesser number
+number_more : (x : Bytes) (k m : ℕ) → k ≤ m → number k 0 x ≤ number m 0 x
+unfolding number
+number_more x k zero l = let e : k ≡ 0 = omega arith in rw e (omega arith)
+number_more x k (suc m) l = go (number_more x k m) (ltb m k) refl
+  where
+    go : (k ≤ m → number k 0 x ≤ number m 0 x) → (b : Bool) → ltb m k ≡ b → number k 0 x ≤ number (suc m) 0 x
+    go h true q = let e : k ≡ suc m = omega (arith, ltb-true m k q) in rw e (omega arith)
+    go h false q = omega (arith, h (ltb-false m k q))
+
+-- seven bytes leave room for one more
+pub number_small : (x : Bytes) → ((m : ℕ) → get_or x m 0 < 256) → (k : ℕ) → k < 8 → number k 0 x < 72057594037927936
+unfolding number
+number_small x g k l = omega (arith, number_more x k 7 (omega arith), g 0, g 1, g 2, g 3, g 4, g 5, g 6)
+
+-- ---- by eight bytes
 
 -- the name of n bytes at o, by the eight bytes there, which may reach behind it
 pub key-less : (s x : Bytes) (o n : ℕ) → ((m : ℕ) → get_or s m 0 < 256) → ((m : ℕ) → get_or x m 0 < 256) → o + n ≤ length s

@@ -2,15 +2,14 @@
 -- follows a byte is less than one of that byte. So runs with one number are the same.
 -- Assumes nothing.
 use mathlib.Core.Bool.{Bool, true, false}
-use mathlib.Core.List.{List, [], ◌++◌}
+use mathlib.Core.List.{List, []}
 use mathlib.Core.Path.{◌≡◌, refl, sym, ap, ◌∙◌}
 use Prim.Native.Nat.{ℕ, zero, suc, ◌+◌, ◌-◌, ◌*◌, ◌/◌, ◌≤◌, ◌<◌, min}
 use native.Mathlib.Omega.{arith}
 use lib.Dec.{ltb}
-use native.Mathlib.Nat.{zero-add}
-use lib.ListN.{length, take, drop, get_or, replicate, get_or-append, get_or-eq_default}
-use lib.Seq.{get_or-take, get_or-drop, get_or-append_right, length-take-le, drop-drop}
-use Rattle.std.proofs.lemmas.List.{get_or-replicate}
+use native.Mathlib.Nat.{zero-add, add-zero}
+use lib.ListN.{length, take, drop, get_or}
+use lib.Seq.{get_or-take, get_or-drop, length-take-le, drop-drop}
 use borrow.Author.Tests.{ltb-true, ltb-false}
 use Rattle.std.specs.declared.cmp.Ordering.{Ordering}
 use Rattle.std.specs.declared.cmp.Ordering.TheVariants.{Less, Equal, Greater}
@@ -35,22 +34,6 @@ number_same (suc k) s t i j h = omega (arith, number_same k s t i j (λ m l. h m
 pub number_part : (k i : ℕ) (s bs : Bytes) → IsWholeChunk (take (i + k - i) (drop i s)) bs k → number k 0 bs ≡ number k i s
 number_part k i s bs h =
     number_same k bs s 0 i (λ m l. let z : m < i + k - i = omega arith in rw (h.same, zero-add m) (get_or-take (i + k - i) (drop i s) m 0 z ∙ get_or-drop i s m 0))
-
--- a name with zeros behind it
-pub number_padded : (x : Bytes) (n : ℕ) → n ≡ min (length x) 8 → number 8 0 (take n x ++ drop n (replicate 8 0)) ≡ number 8 0 x
-number_padded x n e = number_same 8 _ x 0 0 (λ m l. rw (zero-add m) (go m l (ltb m n) refl))
-  where
-    long : length (take n x) ≡ n
-    long = length-take-le n x (omega arith)
-
-    go : (m : ℕ) → m < 8 → (b : Bool) → ltb m n ≡ b → get_or (take n x ++ drop n (replicate 8 0)) m 0 ≡ get_or x m 0
-    go m l true q = let h = ltb-true m n q in get_or-append (take n x) (drop n (replicate 8 0)) 0 m (omega (arith, long)) ∙ get_or-take n x m 0 h
-    go m l false q =
-        let h = ltb-false m n q in
-        get_or-append_right (take n x) (drop n (replicate 8 0)) m 0 (omega (arith, long))
-        ∙ get_or-drop n (replicate 8 0) (m - length (take n x)) 0
-        ∙ get_or-replicate 8 (n + (m - length (take n x))) 0 0 (omega (arith, long))
-        ∙ sym (get_or-eq_default x 0 {n = m} (omega arith))
 
 -- eight bytes after eight
 chunk_at : (k : ℕ) (s : Bytes) (j : ℕ) → j < k → get_or (first_chunks 8 k s) j [] ≡ take 8 (drop (8 * j) s)
@@ -92,6 +75,28 @@ four bs = omega arith
 pub eight : (bs : List ℕ) → from_be_bytes w64 bs ≡ number 8 0 bs
 unfolding number
 eight bs = omega arith
+
+-- ---- longer runs from shorter ones
+
+pub two : (i : ℕ) (s : Bytes) → get_or s (i + 1) 0 + get_or s i 0 * 256 ≡ number 2 i s
+unfolding number
+two i s = rw (add-zero i) (omega arith)
+
+pub four_halves : (i : ℕ) (s : Bytes) → number 2 (i + 2) s + number 2 i s * 65536 ≡ number 4 i s
+unfolding number
+four_halves i s =
+    let a : i + 2 + 0 ≡ i + 2 = omega arith in
+    let b : i + 2 + 1 ≡ i + 3 = omega arith in
+    rw (a, b) (omega arith)
+
+pub eight_halves : (i : ℕ) (s : Bytes) → number 4 (i + 4) s + number 4 i s * 4294967296 ≡ number 8 i s
+unfolding number
+eight_halves i s =
+    let a : i + 4 + 0 ≡ i + 4 = omega arith in
+    let b : i + 4 + 1 ≡ i + 5 = omega arith in
+    let c : i + 4 + 2 ≡ i + 6 = omega arith in
+    let d : i + 4 + 3 ≡ i + 7 = omega arith in
+    rw (a, b, c, d) (omega arith)
 
 -- ---- what two runs say
 

@@ -48,13 +48,13 @@ unfolding order_of
 order-cons a b s t h = rw (cons-equal a b s t h, cons-equal b a t s (sym h))
 
 -- the three cases of two names
-data Compared (x y : Bytes) : Type 0 where
+pub data Compared (x y : Bytes) : Type 0 where
   below : precedes x y ≡ true → Compared x y
   alike : x ≡ y → Compared x y
   above : precedes y x ≡ true → Compared x y
 
 -- one of two names is before the other, or they are one
-compared : (x y : Bytes) → Compared x y
+pub compared : (x y : Bytes) → Compared x y
 compared x y = go (name-dec x y)
   where
     by : (x ≡ y → ⊥) → (v : Bool) → precedes y x ≡ v → Compared x y
@@ -131,7 +131,10 @@ module _ (a b : Bytes) (i : ℕ) where
   pub order-less : i < length a → i < length b → get_or a i 0 < get_or b i 0 → order_of (drop i a) (drop i b) ≡ Less
   order-less h k l = rw (drop-cons a i 0 h, drop-cons b i 0 k) (order_of_before _ _ (cons-less _ _ _ _ l))
 
-  order_next : i < length a → i < length b → get_or a i 0 ≡ get_or b i 0
+  pub order_more : i < length a → i < length b → get_or b i 0 < get_or a i 0 → order_of (drop i a) (drop i b) ≡ Greater
+  order_more h k l = rw (drop-cons a i 0 h, drop-cons b i 0 k) (order_of_behind _ _ (cons-less _ _ _ _ l))
+
+  pub order_next : i < length a → i < length b → get_or a i 0 ≡ get_or b i 0
       → order_of (drop i a) (drop i b) ≡ order_of (drop (suc i) a) (drop (suc i) b)
   order_next h k l = rw (drop-cons a i 0 h, drop-cons b i 0 k) (order-cons _ _ _ _ l)
 

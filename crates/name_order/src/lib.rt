@@ -48,14 +48,19 @@ fn compare_short(a: &[u8], b: &[u8], n: usize) -> Ordering
     half(a, 0).cmp(&half(b, 0)).then(last)
 }
 
-// The first eight bytes of a name as one number, with zeros where it is shorter.
+// The first eight bytes of a name as one number, with zeros where it is shorter. A short one byte by byte: for a copy of as many bytes
+// as it has the compiler calls memcpy, which the library for C would then need from outside.
 pub fn key(name: &[u8]) -> u64
     ensures { result ≡ number 8 0 name.now }
 {
-    let n = name.len().min(8);
-    let mut first = [0; 8];
-    first[..n].copy_from_slice(&name[..n]);
-    u64::from_be_bytes(first)
+    if 8 <= name.len() {
+        return word(name, 0);
+    }
+    let mut first = 0;
+    for i in 0..8 {
+        first = first * 256 + u64::from(name.get(i).copied().unwrap_or(0));
+    }
+    first
 }
 
 // Eight bytes from i on as one number, the first byte the highest.

@@ -10,8 +10,10 @@ use lib.ListN.{length}
 use borrow.Author.Tests.{leb-true}
 use Rattle.std.specs.Prelude.{Some, Result, Ok, Err}
 use Rattle.text.specs.Utf8.{Bytes, text}
-use Rattle.path.specs.Path.{lengths_ok}
+use Rattle.text.proofs.Laws.{text_none}
+use Rattle.path.specs.Path.{pieces, all_short, lengths_ok}
 use Rattle.path.specs.declared.answer.TooLong.{TooLong}
+use Rattle.model.proofs.Entries.{is_true}
 use Rattle.model.specs.Refusals.{bad_text, text_too_long, bad_number, short_buffer}
 use Rattle.model.specs.Tree.{Path}
 use Rattle.model.specs.Prog.{Prog, ◌>>=◌, ◌>>◌, need, refused, run}
@@ -65,6 +67,14 @@ as_taken s path out sort.Named (Ok n) h k = (k.0, λ f. given_some s path (h ref
 as_taken s path out sort.Named (Err e) h k = λ f. given_some s path (h refl) f ∙ k f
 
 -- ---- the tests
+
+-- no text is one that is lent
+pub empty-text : text [] ≡ true
+empty-text = is_true (text []) text_none
+
+pub empty-lengths : lengths_ok [] ≡ true
+unfolding lengths_ok all_short pieces
+empty-lengths = refl
 
 -- a call that goes on has room for a path
 pub enough : (first second path : Bytes) (s : State) → 0 ≡ screened first second path s → 1024 ≤ length first

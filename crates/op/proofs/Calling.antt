@@ -102,7 +102,7 @@ current-takes path = record { given = refl; does = λ b. refl }
 
 -- the slices pass where the call goes on, and the path is there
 module _ {st : Store} {first second : Bytes} {o : Sort} {path out : Bytes} {n : ℕ} where
-  began : Begins st first second o path out (Ok n) → Passes st × (0 ≡ screened first second path (read_back st)) × Stops (read_back st) o path out (Ok n)
+  pub began : Begins st first second o path out (Ok n) → Passes st × (0 ≡ screened first second path (read_back st)) × Stops (read_back st) o path out (Ok n)
   began (broken h z) = absurd (let k : ◌≡◌ {A = ℕ} 0 1 = cc in omega arith)
   began (tested p e z t) = absurd (let k : ◌≡◌ {A = ℕ} 0 1 = cc in omega arith)
   began (formed p z k) = (p, z, k)

@@ -2,6 +2,7 @@
 ghost use Rattle.refusal.specs.Numbers.{answered};
 ghost use Rattle.op.specs.Lending.{PutIs};
 
+use blocks::copy_into;
 use refusal::Refusal;
 
 // Writes s to the front of the buffer and its length to the number; or refuses, and writes nothing.
@@ -11,7 +12,7 @@ pub fn put_bytes(out: &mut [u8], number: &mut u64, s: &[u8]) -> Result<(), Refus
     if out.len() < s.len() {
         return Err(Refusal::ShortBuffer);
     }
-    out[..s.len()].copy_from_slice(s);
+    copy_into(out, 0, s);
     *number = s.len() as u64;
     Ok(())
 }

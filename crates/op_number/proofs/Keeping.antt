@@ -2,8 +2,7 @@
 -- Assumes nothing.
 use Rattle.std.proofs.Common.{◌≡◌, ℕ, ◌≤◌, length, take, drop, sym, ap, ◌∙◌, subst}
 use mathlib.Core.Option.{Option, some}
-use mathlib.Core.List.{◌++◌}
-use lib.Seq.{take-append_seam}
+use lib.Seq.{paste, take-append_seam}
 use Rattle.text.specs.Utf8.{Bytes}
 use Rattle.path.specs.Path.{names}
 use Rattle.model.specs.Tree.{Path}
@@ -15,13 +14,11 @@ use Rattle.ask_entry.specs.Reads.{PathIs}
 use Rattle.walk.specs.Meets.{Plain}
 use Rattle.walk.specs.Meets.{PathIn}
 use Rattle.op.proofs.Naming.{path-plain}
+use Rattle.op.proofs.Writing.{over_front}
 
-module _ (p : Path) (t out copied : Bytes) (h : PathIs p t) (e : copied ≡ t) where
-  abbrev left : Bytes
-  left = copied ++ drop (length t) out
-
+module _ (p : Path) (t out left : Bytes) (h : PathIs p t) (e : left ≡ paste out 0 t (length t)) where
   front : take (length t) left ≡ t
-  front = ap (λ (l : Bytes). take (length t) (l ++ drop (length t) out)) e ∙ take-append_seam t (drop (length t) out)
+  front = ap (take (length t)) (e ∙ over_front t out) ∙ take-append_seam t (drop (length t) out)
 
   pub kept_in_lem : 1024 ≤ length left → PathIn left (length t)
   kept_in_lem n = record { few = cell-fits t h.kept; room = n; plain = subst Plain (sym front) (path-plain p t h) }

@@ -1,7 +1,8 @@
 -- Read and seek by a number that is open: its position and its bytes are told, so the program goes on with them, and what it comes to is
 -- the edit that moves the position.
 -- Assumes nothing.
-use Rattle.std.proofs.Common.{◌≡◌, ℕ, ◌+◌, ◌++◌, length, take, drop, sym, refl, ap, ◌∙◌}
+use Rattle.std.proofs.Common.{◌≡◌, ℕ, ◌+◌, ◌≤◌, length, take, drop, sym, refl, ap, ◌∙◌, arith, length-take}
+use lib.Seq.{paste}
 use mathlib.Core.Option.{Option, some}
 use Rattle.std.specs.Prelude as Prelude
 use Rattle.std.specs.Option.{unwrap_or}
@@ -20,6 +21,7 @@ use Rattle.store_edit.specs.Turns.{NumberOpen}
 use Rattle.op.specs.Lending.{in_bytes, in_number}
 use Rattle.op.specs.Doing.{Does}
 use Rattle.op.proofs.Doing.{does-refused, does-done}
+use Rattle.op.proofs.Writing.{over_front}
 use Rattle.op_number.specs.Opened.{PositionIs}
 
 -- ---- the position
@@ -28,6 +30,11 @@ use Rattle.op_number.specs.Opened.{PositionIs}
 pub position-told : (s : State) (n : ℕ) (r : Prelude.Option ℕ) → NumberIs s n r → PositionIs s n (unwrap_or r 0)
 position-told s n Prelude.None x = λ o y. clash (says (open? n) s) o x y
 position-told s n (Prelude.Some k) x = λ o y. ap (λ (p : Position). p.pos) (some_inj (sym y ∙ x.1)) ∙ x.2
+
+-- ---- the bytes from a position on
+
+pub behind-few : (s : Bytes) (pos most : ℕ) (r : Bytes) → r ≡ take most (drop pos s) → length r ≤ most
+behind-few s pos most r e = omega (arith, ap length e, length-take most (drop pos s))
 
 -- ---- read and seek
 
@@ -65,12 +72,12 @@ module _ (s : State) (n : ℕ) (b : Bytes) (pos : ℕ) (o : NumberOpen n s) (y :
   abbrev place : o.0.pos ≡ pos
   place = z o.0 o.1
 
-  pub does-read : (u : Store) (out : Bytes) (number : ℕ) (r copied : Bytes) → r ≡ take (length out) (drop pos b) → copied ≡ r
-      → Shows u (edited (seek n (pos + length r)) s) → Does (read_on n (length out)) s u (in_bytes out number 0) (in_bytes (copied ++ drop (length r) out) (length r) 0) 0
+  pub does-read : (u : Store) (out after : Bytes) (number : ℕ) (r : Bytes) → r ≡ take (length out) (drop pos b) → after ≡ paste out 0 r (length r)
+      → Shows u (edited (seek n (pos + length r)) s) → Does (read_on n (length out)) s u (in_bytes out number 0) (in_bytes after (length r) 0) 0
   unfolding row_numbers
-  does-read u out number r copied e f h =
+  does-read u out after number r e f h =
       does-done (read_on n (length out)) s u (bytes_reply r 0) (apply (seek n (pos + length r)) (world_of s)) (read-run n (world_of s) o.0 b pos o.1 bytes place (length out) r e) h
-      (in_bytes out number 0) (in_bytes (copied ++ drop (length r) out) (length r) 0) (ap (λ (l : Bytes). in_bytes (l ++ drop (length r) out) (length r) 0) f)
+      (in_bytes out number 0) (in_bytes after (length r) 0) (ap (λ (l : Bytes). in_bytes l (length r) 0) (f ∙ over_front r out))
 
   module _ (origin offset number : ℕ) where
     pub does-sought : (u : Store) (k : ℕ) → ((w : World) → run (seek_from origin offset pos (length b)) w ≡ done k w) → Shows u (edited (seek n k) s) → Does (seek_on n origin offset) s u (in_number number) (in_number k) 0

@@ -43,6 +43,13 @@ module _ (size offset : ℕ) (w : World) where
       let y : ltb sum (2 ^ 64) ≡ false = le-ltb sum (2 ^ 64) h in
       from_run ∙ (λ i. allowed (x i && y i) bad_seek (done (sum - 2 ^ 63) w))
 
+-- the sum of an offset of 0 or above, and of one below
+pub sum_up : (size offset : ℕ) → offset < 2 ^ 63 → sum_above size offset ≡ size + offset + 2 ^ 63
+sum_up size offset h = omega arith
+
+pub sum-down : (size offset : ℕ) → 2 ^ 63 ≤ offset → offset < 2 ^ 64 → sum_above size offset + 2 ^ 63 ≡ size + offset
+sum-down size offset h k = omega arith
+
 -- the sum, by the number that the offset stands for
 pub sum_signed : (size offset : ℕ) (z : ℤ) → offset < 2 ^ 64 → z ≡ to_z w64 offset → pos (sum_above size offset) ≡ (pos size +ℤ to_z w64 (of_z w64 z)) +ℤ pos (2 ^ 63)
 sum_signed size offset z h e = go (ltb offset (2 ^ 63)) refl
@@ -69,6 +76,14 @@ module _ (origin offset at size : ℕ) (w : World) where
   pub seek-here : origin ≡ 1 → (k : ℕ) → k ≡ (at + offset) % 2 ^ 64 → run (seek_from origin offset at size) w ≡ done k w
   unfolding seek_from run
   seek-here e k x = ap (λ (j : ℕ). run (seek_from j offset at size) w) e ∙ ap (λ (j : ℕ). done j w) (sym x)
+
+-- any other is the end, whatever the position
+pub seek-other : (origin offset at size : ℕ) → (origin ≡ 0 → ⊥) → (origin ≡ 1 → ⊥) → (w : World)
+    → run (seek_from origin offset at size) w ≡ run (seek_from 2 offset 0 size) w
+unfolding seek_from
+seek-other zero offset at size x y w = absurd (x refl)
+seek-other (suc zero) offset at size x y w = absurd (y refl)
+seek-other (suc (suc k)) offset at size x y w = refl
 
 -- from the end, whatever the position
 pub seek-end : (origin offset at size : ℕ) (w : World) → origin ≡ 2 → (r : Out ℕ) → run (seek_from 2 offset 0 size) w ≡ r → run (seek_from origin offset at size) w ≡ r

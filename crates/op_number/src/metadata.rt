@@ -7,6 +7,7 @@ ghost use Rattle.layout.specs.Lent.{lent_by, still};
 ghost use Rattle.op.specs.Lending.{in_rows};
 ghost use Rattle.op_number.specs.Opened.{SomeOpen, OpenAnswered};
 
+use blocks::copy_into;
 use layout::slices::Slices;
 use op::parts::tree_of;
 use op_look::metadata::metadata_at;
@@ -26,6 +27,6 @@ pub fn metadata_on(
 {
     let kept = store::kept(lent.words, lent.paths, n);
     let len = kept.len();
-    work[..len].copy_from_slice(kept);
+    copy_into(work, 0, kept);
     metadata_at(tree_of(lent), lent.times, work, len, rows, links)
 }

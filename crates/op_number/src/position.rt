@@ -8,6 +8,7 @@ ghost use Rattle.store.specs.Shows.{Of};
 ghost use Rattle.op.specs.Lending.{in_bytes, in_number};
 ghost use Rattle.op_number.specs.Opened.{SomeOpen, OpenAnswered, PositionIs, origin_from, number_from, SeekIs};
 
+use blocks::copy_into;
 use refusal::Refusal;
 
 // From where a seek goes.
@@ -66,7 +67,7 @@ pub fn read_on(
     let held = store::held(words, heads, bytes, n);
     let part = behind(held, pos, out.len());
     let k = part.len() as u64;
-    out[..part.len()].copy_from_slice(part);
+    copy_into(out, 0, part);
     store_edit::state::seek(words, n, pos + k);
     *number = k;
     Ok(())
@@ -96,7 +97,7 @@ fn seek_from(origin: Origin, offset: u64, pos: u64, size: u64) -> Result<u64, Re
 }
 
 // The position is set, and answered.
-pub fn seek_on(
+pub fn seek_by(
     words: &mut [u64],
     heads: &[u64],
     bytes: &[u8],
@@ -115,4 +116,21 @@ pub fn seek_on(
     store_edit::state::seek(words, n, place);
     *number = place;
     Ok(())
+}
+
+// The same, by the origin's number, of which any may be given.
+pub fn seek_on(
+    words: &mut [u64],
+    heads: &[u64],
+    bytes: &[u8],
+    n: usize,
+    origin: u32,
+    offset: u64,
+    number: &mut u64,
+) -> Result<(), Refusal>
+    requires { SomeOpen (with_words words.old ∘ with_heads heads.now ∘ with_bytes bytes.now) n }
+    ensures { OpenAnswered (on_words words.old words.new & still (with_heads heads.now ∘ with_bytes bytes.now)) n (λ _. seek_on n origin offset)
+        (in_number number.old) (in_number number.new) (answered result) }
+{
+    seek_by(words, heads, bytes, n, Origin::from(origin), offset, number)
 }

@@ -8,7 +8,7 @@ use native.Mathlib.Numerals.{add-one}
 use native.Mathlib.Omega.{arith}
 use lib.Dec.{eqb}
 use lib.ListN.{length, take, drop, get_or, length-take, length-drop, take-append-drop}
-use lib.Seq.{append_snoc, take_all, drop-drop, take-add, take-suc, get_or-take, get_or-drop, length-take-le}
+use lib.Seq.{append_snoc, take_all, drop-cons, drop-drop, take-add, take-suc, get_or-take, get_or-drop, length-take-le}
 use borrow.Author.Tests.{ne_eqb, eqb-false}
 use Rattle.text.specs.Utf8.{Bytes}
 use Rattle.path.specs.Path.{Name, cut, pieces}
@@ -75,6 +75,12 @@ pieces_no_slash (b ∷ s) = go (pieces s) (pieces_no_slash s) (eqb b 47) refl
 pub part-empty : (e : ℕ) (s : Bytes) → part e e s ≡ []
 part-empty e s = let z : e - e ≡ 0 = omega arith in rw z
 
+pub part-cons : (a e : ℕ) (s : Bytes) → a < e → e ≤ length s → part a e s ≡ get_or s a 0 ∷ part (suc a) e s
+part-cons a e s h k =
+    let n : e - a ≡ suc (e - suc a) = omega arith in
+    let l : a < length s = omega arith in
+    rw (n, drop-cons s a 0 l)
+
 pub part_length : (a e : ℕ) (s : Bytes) → e ≤ length s → length (part a e s) ≡ e - a
 part_length a e s k = simp (length-take, length-drop) (omega arith)
 
@@ -95,6 +101,23 @@ pub part-behind : (s : Bytes) (a b : ℕ) → a ≤ b → drop a s ≡ part a b 
 part-behind s a b h =
     let e : a + (b - a) ≡ b = omega arith in
     sym (take-append-drop (b - a) (drop a s)) ∙ ap (λ (t : Bytes). part a b s ++ t) (drop-drop (b - a) a s ∙ ap (λ (k : ℕ). drop k s) e)
+
+-- a part cut in two
+pub part-append : (a b e : ℕ) (s : Bytes) → a ≤ b → b ≤ e → part a e s ≡ part a b s ++ part b e s
+part-append a b e s h k =
+    let n : e - a - (b - a) ≡ e - b = omega arith in
+    let m : a + (b - a) ≡ b = omega arith in
+    take_part (b - a) (e - a) (drop a s) (omega arith) ∙ rw (drop-drop, n, m)
+
+-- a part cut in two at a slash
+pub part_cut : (a b e : ℕ) (s : Bytes) → a ≤ b → b < e → e ≤ length s → get_or s b 0 ≡ 47
+    → pieces (part a e s) ≡ pieces (part a b s) ++ pieces (part (suc b) e s)
+part_cut a b e s h k l q = rw (part-append a b e s h (omega arith), part-cons b e s k l, q) (pieces-append (part a b s) (part (suc b) e s))
+
+pub part_step : (a e : ℕ) (s : Bytes) → 0 < a → a ≤ e → e ≤ length s → part (a - 1) e s ≡ get_or s (a - 1) 0 ∷ part a e s
+part_step a e s z h k =
+    let q : suc (a - 1) ≡ a = omega arith in
+    rw q at (part-cons (a - 1) e s (omega arith) k)
 
 -- ---- the last pieces
 
@@ -142,7 +165,7 @@ module _ (s : Bytes) (e : ℕ) (l : e ≤ length s) where
 -- ---- found from its front, in what stands from a on
 
 module _ (s : Bytes) (a : ℕ) (l : a ≤ length s) where
-  whole_is : (j : ℕ) → a + j ≤ length s → ((k : ℕ) → k < j → get_or (take (length s - a) (drop a s)) k 0 ≡ 47 → ⊥)
+  pub whole_is : (j : ℕ) → a + j ≤ length s → ((k : ℕ) → k < j → get_or (take (length s - a) (drop a s)) k 0 ≡ 47 → ⊥)
       → (0 < a → get_or s (a - 1) 0 ≡ 47) → (a + j < length s → get_or s (a + j) 0 ≡ 47) → WholeIs s a (a + j)
   whole_is j h w f g =
       let n : a + j - a ≡ j = omega arith in

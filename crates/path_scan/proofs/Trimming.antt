@@ -11,9 +11,8 @@ use lib.ListN.{length, take, drop, get_or, length-drop, length-append}
 use lib.Seq.{take_all, take_at, get_or-drop, get_or-append_seam}
 use borrow.Author.Tests.{eqb-true}
 use denote.Ref.{Bor}
-use Rattle.std.specs.Prelude.{Option, Some, None, IfSome}
+use Rattle.std.specs.Prelude.{Option, Some, IfSome}
 use Rattle.std.specs.Bool.{then_some}
-use Rattle.std.specs.Option.{MatchOption, unwrap_or}
 use Rattle.text.specs.Utf8.{Bytes}
 use Rattle.path.specs.Path.{is_absolute, body}
 use Rattle.path.specs.Backward.{sifted}
@@ -36,24 +35,20 @@ lead-is (b ∷ s) = go (eqb b 47) refl
     go true e = record { fits = rw e (omega arith); one = rw e (omega arith); slash = λ _. eqb-true b 47 e }
     go false e = record { fits = rw e zero-le; one = rw e zero-le; slash = λ h. absurd (let z = rw e at h in omega (arith, z)) }
 
--- without a slash in front
-pub behind-lead : (s : Bytes) (r : Option (Bor Bytes)) (d : Bor Bytes) → d.now ≡ s
-    → MatchOption r ((rest : Bytes) → s ≡ (47 ∷ []) ++ rest → ⊥) (λ x. s ≡ (47 ∷ []) ++ x.now) → (unwrap_or r d).now ≡ drop (lead s) s
+-- a text that begins with a slash, and one that does not
+pub lead_slash : (s : Bytes) → 0 < length s → get_or s 0 0 ≡ 47 → lead s ≡ 1
 unfolding is_absolute
-behind-lead s (Some x) d e m = rw m
-behind-lead [] None d e m = e
-behind-lead (b ∷ s) None d e m = e ∙ go (eqb b 47) refl
-  where
-    go : (t : Bool) → eqb b 47 ≡ t → b ∷ s ≡ drop (lead (b ∷ s)) (b ∷ s)
-    go true q = absurd (m s (ap (λ (x : ℕ). x ∷ s) (eqb-true b 47 q)))
-    go false q = rw q
+lead_slash [] h e = absurd (omega (arith, h))
+lead_slash (b ∷ s) h e = rw e refl
 
--- and without one at the end
-pub before-end : (u : Bytes) (r : Option (Bor Bytes)) (d : Bor Bytes) → d.now ≡ u
-    → MatchOption r ((front : Bytes) → u ≡ front ++ (47 ∷ []) → ⊥) (λ x. u ≡ x.now ++ (47 ∷ []))
-    → ((unwrap_or r d).now ≡ u) ⊎ (u ≡ (unwrap_or r d).now ++ (47 ∷ []))
-before-end u (Some x) d e m = inr m
-before-end u None d e m = inl e
+pub lead_other : (s : Bytes) → (get_or s 0 0 ≡ 47 → ⊥) → lead s ≡ 0
+unfolding is_absolute
+lead_other [] h = refl
+lead_other (b ∷ s) h = go (eqb b 47) refl
+  where
+    go : (t : Bool) → eqb b 47 ≡ t → lead (b ∷ s) ≡ 0
+    go true e = absurd (h (eqb-true b 47 e))
+    go false e = rw e refl
 
 module _ (s n : Bytes) where
   abbrev a : ℕ

@@ -1,14 +1,34 @@
 // A text whose pieces are all names, as most are: it needs no reading from the end.
-ghost use Rattle.std.specs.Prelude.{◌≡◌, Bool, true, ◌<◌, length, IfSome};
+ghost use Rattle.std.specs.Prelude.{[], ◌≡◌, ◌∷◌, ◌++◌, ◌⊎◌, Bool, true, ◌<◌, length, drop, IfSome};
 ghost use Rattle.path.specs.Answer.{AllNames, Clean};
-ghost use Rattle.path_scan.specs.Plain.{PlainPart, TrimIs};
+ghost use Rattle.path_scan.specs.Plain.{lead, PlainPart, TrimIs};
 
-// The text but for a slash in front and one at its end.
+// The text but for a slash in front.
+#[tactic(auto, using(crate::proofs::Trimming::lead_slash, crate::proofs::Trimming::lead_other))]
+fn behind_slash(s: &[u8]) -> &[u8]
+    ensures { result.now ≡ drop (lead s.now) s.now }
+{
+    match s {
+        [b'/', behind @ ..] => behind,
+        _ => s,
+    }
+}
+
+// The text but for a slash at its end.
+fn before_slash(s: &[u8]) -> &[u8]
+    ensures { (result.now ≡ s.now) ⊎ (s.now ≡ result.now ++ (47 ∷ [])) }
+{
+    match s {
+        [front @ .., b'/'] => front,
+        _ => s,
+    }
+}
+
+// But for both. (By patterns: the library's strip_prefix and strip_suffix compare slices, which takes longer than a short path.)
 fn trimmed(s: &[u8]) -> &[u8]
     ensures { TrimIs s.now result.now }
 {
-    let behind = s.strip_prefix(b"/").unwrap_or(s);
-    behind.strip_suffix(b"/").unwrap_or(behind)
+    before_slash(behind_slash(s))
 }
 
 // Whether no slash has a slash or a dot behind it.

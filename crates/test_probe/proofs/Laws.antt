@@ -177,3 +177,10 @@ follow-refused dir {behind} {target} {before} {after} {name} {r} k w h =
     let u = unplaced dir before after r w h in
     let e : leb name (length behind) ≡ true = le-leb name (length behind) k in
     record { answer = rw (e, u.0) w.answer; buffer = rw (e, u.0) u.1 }
+
+-- the directory still reads back once something is put behind it
+pub reads-behind : (out : Bytes) (have : ℕ) {mid : Bytes} (z : Bytes) → body (names (take have out)) ≡ take have out → have ≤ length out
+    → mid ≡ take have out ++ z → body (names (take have mid)) ≡ take have mid
+reads-behind out have {mid} z e l m =
+    let f : take have mid ≡ take have out = ap (λ (x : Bytes). take have x) m ∙ take_at (take have out) z have (length-take-le have out l) in
+    rw f e

@@ -11,6 +11,7 @@ ghost use Rattle.layout.specs.Lawful.{Passes};
 ghost use Rattle.lawful_limits.specs.Settles.{Settles};
 ghost use Rattle.test_probe.specs.Numbers.{Answers, LastAt, NameAnswers, FollowAnswers, Behind, number_of, which_of, from_of, to_of};
 
+use blocks::copy_into;
 use lawful::store_ok;
 use layout::slices::Slices;
 use path::answer::{Place, TooLong};
@@ -120,7 +121,7 @@ pub fn probe_last_name<'a>(out: &mut [u8], path: &'a [u8], cwd: &'a [u8]) -> u64
     if out.len() < n.len() {
         return 1000014;
     }
-    out[..n.len()].copy_from_slice(n);
+    copy_into(out, 0, n);
     n.len() as u64
 }
 
@@ -135,7 +136,7 @@ fn follow_behind(out: &mut [u8], have: usize, behind: &[u8], name: usize, target
         return 1000002;
     }
     let len = have + behind.len();
-    out[have..len].copy_from_slice(behind);
+    copy_into(out, have, behind);
     number(follow(out, have, have + name, len, target))
 }
 

@@ -1,8 +1,6 @@
 -- `jobtree_seek` meets its contract: the tests, and what the operation comes to over the parts that the limits ask.
 -- Assumes nothing.
 use Rattle.std.proofs.Common.{refl}
-use Rattle.op.proofs.Calling.{same_run}
-use Rattle.op_number.proofs.Seeking.{origin_run}
 use Rattle.op.proofs.Cutting.{as_was, put_back}
 use Rattle.op.proofs.Numbering.{seek-numbers, answers-refused, answers-open, open-cut}
 use Rattle.jobtree.proofs.number.jobtree_seek.Goals as goal
@@ -16,5 +14,5 @@ returns-in-Err c = answers-refused _ (seek-numbers _ _ _) c.in-Err.ensures c.num
 pub returns-in-Ok : goal.returns-in-Ok
 returns-in-Ok c =
     let z = c.of-used.ensures in
-    answers-open (seek-numbers _ _ _) z c.in-Ok.ensures refl (λ v s h y. same_run (origin_run _ _ _ _ c.from.ensures) (c.seek_on.ensures v s h y)) (record { words = put_back z.words c.seek_on.auto.words; records = as_was _ _; heads = as_was _ _; times = as_was _ _; paths = as_was _ _; bytes = as_was _ _ })
+    answers-open (seek-numbers _ _ _) z c.in-Ok.ensures refl c.seek_on.ensures (record { words = put_back z.words c.seek_on.auto.words; records = as_was _ _; heads = as_was _ _; times = as_was _ _; paths = as_was _ _; bytes = as_was _ _ })
     refl c.type_inv.words c.type_inv.heads c.type_inv.bytes c.answer.ensures

@@ -2,8 +2,7 @@
 -- Assumes nothing.
 use Prim.Native.Nat.{◌≤◌}
 use lib.ListN.{length}
-use lib.Seq.{length-take-le}
-use Rattle.std.proofs.Common.{refl, arith, sym, ap, length-append, length-drop}
+use Rattle.std.proofs.Common.{refl, arith}
 use Rattle.model.specs.Calls.States.{world_of}
 use Rattle.edit_state.proofs.Cells.{cell-fits}
 use Rattle.layout.specs.Lent.{lent_by}
@@ -18,25 +17,18 @@ use Rattle.op_number.proofs.metadata.metadata_on.Goals as goal
 fits : (c : After-kept-kept) → length c.kept-kept.result.now ≤ length c.args.work.now
 fits c = let p = c.requires.0 in omega (arith, cell-fits _ (c.kept-kept.ensures (lent_by c.args.lent) p.1 p.2 p.3.0 p.3.1).kept, c.requires.1)
 
-pub slice_bounds-copy_from_slice-end : goal.slice_bounds-copy_from_slice-end
-slice_bounds-copy_from_slice-end c = fits (goal.at.slice_bounds-copy_from_slice-end c).After-kept-kept
-
-pub slice_bounds-copy_from_slice-end-2 : goal.slice_bounds-copy_from_slice-end-2
-slice_bounds-copy_from_slice-end-2 c = sym (length-take-le _ _ (fits (goal.at.slice_bounds-copy_from_slice-end-2 c).After-kept-kept))
-
-pub copy_from_slice-requires : goal.copy_from_slice-requires
-copy_from_slice-requires c = length-take-le _ _ (fits (goal.at.copy_from_slice-requires c).After-kept-kept)
+pub copy_into-requires : goal.copy_into-requires
+copy_into-requires c = omega (arith, fits (goal.at.copy_into-requires c).After-kept-kept)
 
 pub metadata_at-requires : goal.metadata_at-requires
 metadata_at-requires c =
-    let p = c.requires.0 in let u = c.args.lent in let f = fits (goal.at.metadata_at-requires c).After-kept-kept in (
+    let p = c.requires.0 in let u = c.args.lent in (
       (lent_by u, p.1, shows_as (with-times-too u c.tree_of.ensures) p.2),
-      kept_in_lem _ _ _ _ (c.kept-kept.ensures (lent_by u) p.1 p.2 p.3.0 p.3.1) c.copy_from_slice.ensures.after
-          (simp (length-append, length-drop) (omega (arith, ap length c.copy_from_slice.ensures.after, f, c.requires.1))),
+      kept_in_lem _ _ _ _ (c.kept-kept.ensures (lent_by u) p.1 p.2 p.3.0 p.3.1) c.copy_into.ensures (omega (arith, c.copy_into.auto.dst, c.requires.1)),
     )
 
 pub returns : goal.returns
 returns c =
     λ st s h o. let u = c.args.lent in let e = with-times-too u c.tree_of.ensures in
-    same_run (kept_run _ _ c.args.work.now _ (c.kept-kept.ensures (lent_by u) s h o.0 o.1) c.copy_from_slice.ensures.after _ _ _ (world_of s) o.0 o.1 refl)
+    same_run (kept_run _ _ _ _ (c.kept-kept.ensures (lent_by u) s h o.0 o.1) c.copy_into.ensures _ _ _ (world_of s) o.0 o.1 refl)
     (does-left e (c.metadata_at.ensures (lent_by u) s (shows_as e h)))
