@@ -236,6 +236,18 @@ ready ws bs s h =
       few = omega (arith, ap length h.records, l.counted, l.entry_limit.1);
     }
 
+-- what the records say as far as the entries go, of a store that has all of them
+module _ (ws : List ℕ) (bs : Bytes) (n : ℕ) (st : Store) (e : st.records ≡ ws) (f : st.bytes ≡ bs) (c : count st ≡ n) where
+  pub asked_whole : (s : Spot) (x : Name) (m : ℕ) → find_in (depth_of (get_or ws s.at 0)) x (drop (s.at + 1) (rows (take n ws) bs)) (s.at + 1) m
+      ≡ find_in (depth_of (get_or st.records s.at 0)) x (drop (s.at + 1) (rows_of st)) (s.at + 1) m
+  asked_whole s x m = λ j. find_in (depth_of (get_or (sym e j) s.at 0)) x (drop (s.at + 1) (rows (take (sym c j) (sym e j)) (sym f j))) (s.at + 1) m
+
+  pub next_whole : (s : Spot) (m : ℕ) → m ≡ name_total (take (s.at + 1) ws) → m ≡ name_total (take (s.at + 1) st.records)
+  next_whole s m z = z ∙ ap (λ (us : List ℕ). name_total (take (s.at + 1) us)) (sym e)
+
+  pub depth_whole : (s : Spot) (g : ℕ) → g ≡ depth_of (get_or ws s.at 0) + 1 → g ≡ depth_of (get_or st.records s.at 0) + 1
+  depth_whole s g z = z ∙ ap (λ (us : List ℕ). depth_of (get_or us s.at 0) + 1) (sym e)
+
 -- what it answers, of a store that has the slices
 module _ (ws : List ℕ) (bs : Bytes) (st : Store) (e : live st ≡ ws) (f : st.bytes ≡ bs) (s : Spot) (h : s.at < count st) where
   depth-live : depth_of (get_or ws s.at 0) ≡ depth_of (get_or st.records s.at 0)

@@ -2,10 +2,10 @@
 -- other.
 -- Assumes nothing.
 use mathlib.Core.Path.{◌≡◌, ap, ◌∙◌}
-use mathlib.Core.List.{List, ◌∷◌}
+use mathlib.Core.List.{List, [], ◌∷◌}
 use Prim.Native.Nat.{ℕ, suc, ◌+◌, ◌≤◌, ◌<◌}
 use native.Mathlib.Omega.{arith}
-use lib.ListN.{length, take, drop, get_or, length-drop}
+use lib.ListN.{length, take, drop, get_or, length-drop, drop_of_length-le}
 use lib.Seq.{drop-cons, get_or-take, length-take-le}
 use Rattle.text.specs.Utf8.{Bytes}
 use Rattle.layout.specs.Fields.{nlen_of}
@@ -19,6 +19,12 @@ pub from_at : (ws : List ℕ) (n j : ℕ) → n ≤ length ws → j < n → from
 from_at ws n j h l =
     let a : j < length (take n ws) = omega (arith, length-take-le n ws h) in
     drop-cons (take n ws) j 0 a ∙ ap (λ (w : ℕ). w ∷ from ws n (suc j)) (get_or-take n ws j 0 l)
+
+pub from_end_lem : (ws : List ℕ) (n j : ℕ) → n ≤ length ws → n ≤ j → from ws n j ≡ []
+from_end_lem ws n j h l = drop_of_length-le (take n ws) {i = j} (omega (arith, length-take-le n ws h))
+
+pub from_length : (ws : List ℕ) (n j : ℕ) → n ≤ length ws → j ≤ n → j + length (from ws n j) ≡ n
+from_length ws n j h l = omega (arith, length-take-le n ws h, length-drop j (take n ws))
 
 pub names_at : (ws : List ℕ) (n j : ℕ) → n ≤ length ws → j < n → name_total (from ws n j) ≡ nlen_of (get_or ws j 0) + name_total (from ws n (suc j))
 unfolding name_total

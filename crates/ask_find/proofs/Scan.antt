@@ -73,7 +73,7 @@ module _ (ws : List ℕ) (bs : Bytes) (j o : ℕ) (l : j < length ws) where
       scan-less k m = rw (drop-cons ws j 0 l, lt-leb (depth_of w) d (omega arith), eq-eqb (depth_of w) (suc d) k, m, name-at, drop-drop)
 
       -- a record is passed that is deeper than an entry, or whose first eight bytes are less
-      scan-passed : ((m : ℕ) → get_or bs m 0 < 256) → ((m : ℕ) → get_or x m 0 < 256) → (k : ℕ) → number 8 0 x ≡ k → d < depth_of w
+      pub scan-passed : ((m : ℕ) → get_or bs m 0 < 256) → ((m : ℕ) → get_or x m 0 < 256) → (k : ℕ) → number 8 0 x ≡ k → d < depth_of w
           → (b : Bool) → (b ≡ true → number 8 o bs < k) → not (not (eqb (depth_of w - d) 1) || b) ≡ false
           → scan ws bs d x (spot j o) ≡ scan ws bs d x (spot (suc j) (o + nlen_of w))
       scan-passed f g k e i b s q = go (eqb (depth_of w - d) 1) refl q

@@ -1,17 +1,33 @@
 -- Bytes of slots that no record has, and bytes of slots that one has: together they are the bytes of all slots, since no slot has
 -- two records.
 -- Assumes nothing.
-use mathlib.Core.Bool.{cond}
+use mathlib.Core.Bool.{Bool, cond}
 use mathlib.Core.List.{List, [], ◌∷◌}
-use mathlib.Core.Path.{◌≡◌, refl, ap, ◌∙◌}
+use mathlib.Core.Path.{◌≡◌, refl, sym, ap, ◌∙◌}
 use Prim.Native.Nat.{ℕ, zero, suc, ◌+◌, ◌≤◌}
+use native.Mathlib.Nat.{add-zero}
 use native.Mathlib.Omega.{arith}
 use lib.Dec.{eqb}
 use lib.ListN.{length, get_or}
+use borrow.Author.Tests.{eq-eqb, ne_eqb}
 use Rattle.std.specs.List.{sum_by, zip}
 use Rattle.std.proofs.lemmas.List.Sums.{sum_by-cons}
 use Rattle.layout.specs.Fields.{len_of}
 use Rattle.ask_used.specs.Unnamed.{alone, alone_from, unmarked_bytes}
+
+-- one slot more
+pub alone_more : (u : ℕ → ℕ) (hs : List ℕ) (n k : ℕ) → alone_from u hs (suc n) k ≡ alone_from u hs n k + alone u hs (k + n)
+unfolding alone_from
+alone_more u hs zero k = ap (λ (j : ℕ). alone u hs j + 0) (sym (add-zero k)) ∙ omega arith
+alone_more u hs (suc n) k =
+    let e : suc k + n ≡ k + suc n = omega arith in
+    ap (λ (m : ℕ). alone u hs k + m) (alone_more u hs n (suc k)) ∙ (ap (λ (j : ℕ). alone u hs k + (alone_from u hs n (suc k) + alone u hs j)) e ∙ omega arith)
+
+pub alone-marked : (u : ℕ → ℕ) (hs : List ℕ) (k : ℕ) → (u k ≡ 0 → ⊥) → alone u hs k ≡ 0
+alone-marked u hs k h = ap (λ (b : Bool). cond b (len_of (get_or hs k 0)) 0) (ne_eqb (u k) 0 h)
+
+pub alone-free : (u : ℕ → ℕ) (hs : List ℕ) (k : ℕ) → u k ≡ 0 → alone u hs k ≡ len_of (get_or hs k 0)
+alone-free u hs k h = ap (λ (b : Bool). cond b (len_of (get_or hs k 0)) 0) (eq-eqb (u k) 0 h)
 
 -- by another count of the same
 pub alone_same : (u v : ℕ → ℕ) (hs : List ℕ) (n k : ℕ) → ((i : ℕ) → u i ≡ v i) → alone_from u hs n k ≡ alone_from v hs n k

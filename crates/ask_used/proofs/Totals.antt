@@ -2,21 +2,21 @@
 -- what lies below d; so a sum over the entries of a directory adds up to the sum over all below it.
 -- Assumes nothing.
 use mathlib.Core.Path.{◌≡◌, refl, sym}
-use mathlib.Core.Bool.{Bool, true, false}
+use mathlib.Core.Bool.{Bool, true, false, cond}
 use mathlib.Core.List.{List, [], ◌∷◌}
 use Prim.Native.Nat.{ℕ, suc, ◌+◌, ◌*◌, ◌≤◌, ◌<◌, zero-le}
-use native.Mathlib.Nat.{zero-add}
+use native.Mathlib.Nat.{zero-add, le_refl}
 use native.Mathlib.Numerals.{add-one}
 use native.Mathlib.Omega.{arith}
-use lib.Dec.{leb}
-use lib.ListN.{length, drop, get_or, length-drop, drop_of_length-le}
-use lib.Seq.{drop-drop, drop-cons}
+use lib.Dec.{leb, eqb}
+use lib.ListN.{length, take, drop, get_or, length-drop, drop_of_length-le}
+use lib.Seq.{drop-drop, drop-cons, length-take-le}
 use borrow.Author.Tests.{le-leb, lt-leb, leb-false}
-use Rattle.layout.specs.Fields.{depth_of}
+use Rattle.layout.specs.Fields.{depth_of, kind_of}
 use Rattle.layout.specs.Rows.{name_total}
 use Rattle.ask_find.specs.Spans.{span}
 use Rattle.ask_find.proofs.Spans.{pick_n-le, span_fits, span_on}
-use Rattle.ask_used.specs.Totals.{entry_bytes, below, held_total, whole_bytes, whole_end}
+use Rattle.ask_used.specs.Totals.{head_of, entry_bytes, below, held_total, link_total, whole_bytes, whole_end}
 
 -- a name has at most 255 bytes, and a slot less than 2^24
 below-le : (hs : List ℕ) (d : ℕ) (ws : List ℕ) → below hs d ws ≤ length ws * 16777471
@@ -57,6 +57,19 @@ sizes-split hs e (w ∷ ws) = go (leb (depth_of w) e) refl (sizes-split hs e ws)
         → sizes hs (w ∷ ws) ≡ below hs e (w ∷ ws) + sizes hs (drop (span e (w ∷ ws)) (w ∷ ws))
     go true q ih = rw q (sym (zero-add _))
     go false q ih = rw q (omega (arith, ih))
+
+-- no more links than records
+links-le : (hs ws : List ℕ) → link_total hs ws ≤ length ws
+unfolding link_total
+links-le hs [] = zero-le
+links-le hs (w ∷ ws) = omega (arith, links-le hs ws, cond-le (eqb (kind_of (head_of hs w)) 3))
+  where
+    cond-le : (b : Bool) → cond b 1 0 ≤ 1
+    cond-le true = le_refl 1
+    cond-le false = zero-le
+
+pub links-fit : (ws : List ℕ) (n : ℕ) → n ≤ length ws → (hs : List ℕ) → link_total hs (take n ws) ≤ n
+links-fit ws n h hs = omega (arith, links-le hs (take n ws), length-take-le n ws h)
 
 module _ (ws hs : List ℕ) where
   -- the bytes of the entry at j with all below it, and the record behind them

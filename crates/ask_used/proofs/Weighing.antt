@@ -37,6 +37,18 @@ use Rattle.ask_used.specs.Answers.{Weighed, held_in, WeightIs}
 
 -- ---- numbers on a slot
 
+pub held_none : (st : Store) (i k : ℕ) → held_from st 0 i k ≡ false
+unfolding held_from
+held_none st i k = refl
+
+pub held-here : (st : Store) (n i k : ℕ) → holder st i ≡ suc k → held_from st (suc n) i k ≡ true
+unfolding held_from
+held-here st n i k e = ap (λ (b : Bool). b || held_from st n (suc i) k) (eq-eqb (holder st i) (suc k) e)
+
+pub held_on : (st : Store) (n i k : ℕ) → (holder st i ≡ suc k → ⊥) → held_from st (suc n) i k ≡ held_from st n (suc i) k
+unfolding held_from
+held_on st n i k e = ap (λ (b : Bool). b || held_from st n (suc i) k) (ne_eqb (holder st i) (suc k) e)
+
 -- a number that is open on a slot stands on it
 held_is : (st : Store) (n i k : ℕ) → is_held (opens_from st n i) k ≡ held_from st n i k
 unfolding held_from opens_from is_held

@@ -8,17 +8,20 @@ use native.Mathlib.Omega.{arith}
 use lib.ListN.{length, take, drop, get_or}
 use lib.Seq.{get_or-take}
 use Rattle.text.specs.Utf8.{Bytes}
-use Rattle.model.specs.Tree.{Path}
+use Rattle.model.specs.Tree.{Path, file}
+use Rattle.model.proofs.Demand.Over.{file-inj}
 use Rattle.layout.specs.Fields.{depth_of, nlen_of, slot_of}
 use Rattle.layout.specs.Rows.{Row, rows, path_of}
 use Rattle.layout.specs.Store.{Store, count, live, rows_of, kind_at}
 use Rattle.layout.specs.Lawful.{Lawful}
+use Rattle.layout.specs.Alike.{HasSlot}
 use Rattle.layout.proofs.Roots.{all_slots}
 use Rattle.layout.proofs.Used.{live-length}
-use Rattle.layout.proofs.Walks.{At}
-use Rattle.slots.proofs.Rowed.{words_within}
+use Rattle.layout.proofs.Walks.{At, look_at, at_once}
+use Rattle.slots.proofs.Rowed.{words_within, used-once}
 use Rattle.layout.proofs.Named.{length-rows}
 use Rattle.layout.specs.Parts.{path_after}
+use Rattle.edit_entry.specs.Removal.{EntryPath}
 
 -- ---- by the words of the records
 
@@ -64,3 +67,11 @@ module _ (st : Store) (l : Lawful st) (i : ℕ) (low : i < count st) where
   slot-low =
       let w = words_within (length st.heads) (live st) st.bytes (all_slots (kind_at st) (length st.heads) (rows_of st) l.entries) i in_live in
       omega (arith, w, ap slot_of same_word)
+
+  -- the path that has the record's slot is the entry's
+  pub slot-path : (p : Path) → HasSlot st p (slot_of (get_or st.records i 0)) → EntryPath st i p
+  slot-path p h =
+      let a = look_at file [] (rows_of st) p (file (slot_of (get_or st.records i 0))) h in
+      let s = slot_of (get_or st.records i 0) in
+      at_once [] (rows_of st) s (used-once st l s slot-low) (path_after [] (take (suc i) (rows_of st))) p (get_or (rows_of st) i a.0) a.0
+      (at_row [] (rows_of st) i a.0 in_rows_lem) a.1 (entry-slot a.0) (file-inj a.2)

@@ -206,7 +206,7 @@ module _ {st : Store} {k depth : ℕ} {x : Name} {made : Made} (l : Lawful st) (
         timing : Timed st st' s new.time
         timing = times-filled st st' s new.time may-fill.3 f.times
 
-        grown : Grown st st' (take k (rows_of st)) (drop k (rows_of st)) row h c new.time
+        pub grown : Grown st st' (take k (rows_of st)) (drop k (rows_of st)) row h c new.time
         grown =
             record {
               counted = record { words = g ∙ ap (set st.words 2) (add-one (count st)); paths = refl; slots = ap length f.heads ∙ length-set st.heads s h };

@@ -368,11 +368,11 @@ module _ {st : Store} {i e p depth : ℕ} {y : Name} (l : Lawful st) (m : Movabl
           carried-spells st st' m.root m.a m.row m.x m.b m.a₂ m.b₂ m.q y l carried m.deeper m.behind_it m.gap m.name m.not_first m.clear
 
     -- the depth as the code reads it
-    may-move-by : {d : ℕ} → d ≡ depth_of (get_or st.records i 0)
+    pub may-move-by : {d : ℕ} → d ≡ depth_of (get_or st.records i 0)
         → (i ≤ e) × (e ≤ n) × (p ≤ n) × (i < p → e ≤ p) × (n ≤ length rs₁) × (n ≤ 4096) × (name_total (take n rs₁) ≤ length bs₁) × (depth ≤ 65536) × ((j : ℕ) → i ≤ j → j < e → Liftable (get_or rs₁ j 0) depth d)
     may-move-by f = rw (f ∙ word_is.0) may-move
 
-    moves-by : {d : ℕ} → d ≡ depth_of (get_or st.records i 0) → {rs' : List ℕ} {bs' : Bytes} → Moved rs₁ bs₁ rs' bs' n i e p depth d
+    pub moves-by : {d : ℕ} → d ≡ depth_of (get_or st.records i 0) → {rs' : List ℕ} {bs' : Bytes} → Moved rs₁ bs₁ rs' bs' n i e p depth d
         → Spells (lent st.words rs' st.heads st.times st.paths bs') (moved (path_of (path_after [] m.a) m.row) (m.q ++ (y ∷ [])) (state st))
     moves-by f {rs'} {bs'} v = moves (subst (λ (k : ℕ). Moved rs₁ bs₁ rs' bs' n i e p depth k) (f ∙ word_is.0) v)
 

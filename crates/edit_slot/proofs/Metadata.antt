@@ -3,7 +3,7 @@
 -- Assumes nothing.
 use mathlib.Core.List.{List, []}
 use mathlib.Core.Path.{◌≡◌, refl, ap, ◌∙◌}
-use Prim.Native.Nat.{ℕ, ◌+◌, ◌*◌, ◌≤◌, ◌<◌}
+use Prim.Native.Nat.{ℕ, ◌+◌, ◌*◌, ◌%◌, ◌≤◌, ◌<◌}
 use native.Mathlib.Omega.{arith}
 use lib.IntN.{ℤ}
 use lib.ListN.{length, get_or, set, length-set}
@@ -17,7 +17,7 @@ use Rattle.layout.specs.Lawful.{Lawful}
 use Rattle.slots.proofs.Contents.{total_same, contents_same}
 use Rattle.edit_slot.specs.Changes.{Changes}
 use Rattle.slots.specs.Times.{times_set}
-use Rattle.edit_slot.specs.Times.{in_model, set_if, some_set}
+use Rattle.edit_slot.specs.Times.{modified_set, in_model, set_if, some_set}
 use Rattle.std.specs.Prelude.{Option, Some, None}
 use Rattle.edit_slot.proofs.Altering.{slotted, altered-changes}
 use Rattle.edit_slot.proofs.Timing.{meta_by, with_accessed, with_changed, with_created, with_modified, meta_past, meta-accessed, meta-changed, meta-created, meta-modified}
@@ -33,6 +33,10 @@ module _ (h m : ℕ) where
 
   pub word-mode : mode_of (head_word (len_of h) (kind_of h) m) ≡ m
   word-mode = omega arith
+
+  -- as it is stored
+  pub word-stored : m * 4294967296 + h % 4294967296 ≡ head_word (len_of h) (kind_of h) m
+  word-stored = omega arith
 
 module _ (st : Store) (l : Lawful st) (k : ℕ) (hk : k < length st.heads) where
   pub mode-changes : (m : ℕ) → Changes (chmod m) st (slotted st (set st.heads k (head_word (len_of (get_or st.heads k 0)) (kind_of (get_or st.heads k 0)) m)) st.times st.bytes) k
@@ -131,6 +135,9 @@ module _ (st : Store) (l : Lawful st) (k : ℕ) (hk : k < length st.heads) where
 
       long3 : length t3 ≡ length ts
       long3 = length-set t2 (4 * k + 2) a ∙ long2
+
+  pub modified_past : (t : ℤ) (i : ℕ) → (i ≡ k → ⊥) → meta_by (get_or st.heads i 0) (modified_set st.times k t) i ≡ meta_at st i
+  modified_past t i n = meta_past (get_or st.heads i 0) st.times k (4 * k + 3) i t (omega arith) (omega arith) n
 
   -- a time that is stored or not
   if_length : (v : Option ℤ) (ts : List ℤ) (i : ℕ) → length (set_if v ts i) ≡ length ts

@@ -9,7 +9,7 @@ use native.Mathlib.Omega.{arith}
 use lib.Dec.{eqb, ltb}
 use lib.ListN.{length, take, drop, get_or, set}
 use lib.Seq.{take-take, take-suc-set, length-take-le}
-use borrow.Author.Tests.{lt-ltb, le-ltb, ne_eqb, ltb-true, eqb-true}
+use borrow.Author.Tests.{lt-ltb, le-ltb, eq-eqb, ne_eqb, ltb-true, eqb-true}
 use Rattle.std.proofs.lemmas.Bool.{and_parts}
 use Rattle.std.proofs.lemmas.List.{length-map, take-map, map_push}
 use Rattle.std.proofs.lemmas.List.Elements.{All-nil, All-same, All-push, All-take}
@@ -29,7 +29,7 @@ use Rattle.lawful_entries.proofs.Looking.{rows_at, rows_end, total_at}
 -- ---- the path that spans say
 
 module _ (bs : Bytes) (last : List Span) (d : ℕ) where
-  path-length : d ≤ length last → length (spell bs (take d last)) ≡ d
+  pub path-length : d ≤ length last → length (spell bs (take d last)) ≡ d
   path-length l = simp length-map (length-take-le d last l)
 
   -- the first names of it, and one more
@@ -37,13 +37,41 @@ module _ (bs : Bytes) (last : List Span) (d : ℕ) where
   front_more k v a h = take-suc-set last k v h ∙ ap (λ (x : List Span). x ++ (v ∷ [])) (sym (take-take k d last a))
 
   -- as many names of it as the entry has directories below the root, and its own
-  path_next : (k off n : ℕ) (v : Span) → k ≤ d → k < length last → name_at bs v ≡ take n (drop off bs)
+  pub path_next : (k off n : ℕ) (v : Span) → k ≤ d → k < length last → name_at bs v ≡ take n (drop off bs)
       → take k (spell bs (take d last)) ++ (take n (drop off bs) ∷ []) ≡ spell bs (take (suc k) (set last k v))
   path_next k off n v a h e = sym (ap (spell bs) (front_more k v a h) ∙ map_push (name_at bs) (take k (take d last)) v ∙ rw (take-map (name_at bs) k (take d last), e))
 
   -- the spans stay within the bytes
-  spelt_next : (m k : ℕ) (v : Span) → k ≤ d → k < length last → Within m v → Spelt m (take d last) → Spelt m (take (suc k) (set last k v))
+  pub spelt_next : (m k : ℕ) (v : Span) → k ≤ d → k < length last → Within m v → Spelt m (take d last) → Spelt m (take (suc k) (set last k v))
   spelt_next m k v a h w s = All-same (Within m) _ _ (front_more k v a h) (All-push (Within m) (take k (take d last)) v (All-take (Within m) k (take d last) s) w)
+
+-- ---- where an entry stands behind one of that path
+
+module _ (p : Path) (dir : Bool) (x : Name) where
+  pub follows-root : (dep : ℕ) → dep ≡ 0 → false ≡ follows p dir dep x
+  follows-root dep e = rw e
+
+  pub follows-beside : (dep : ℕ) → (dep ≡ 0 → ⊥) → dep - 1 < length p → precedes (get_or p (dep - 1) []) x ≡ follows p dir dep x
+  follows-beside zero z h = absurd (z refl)
+  follows-beside (suc k) z h =
+      let y : suc k - 1 ≡ k = omega arith in
+      let t : ltb k (length p) ≡ true = lt-ltb k (length p) (omega arith) in
+      ap (λ (i : ℕ). precedes (get_or p i []) x) y ∙ ap (λ (b : Bool). cond b (precedes (get_or p k []) x) (eqb k (length p) && dir)) (sym t)
+
+  deeper : (k : ℕ) → length p ≤ k → follows p dir (suc k) x ≡ eqb k (length p) && dir
+  deeper k h = ap (λ (b : Bool). cond b (precedes (get_or p k []) x) (eqb k (length p) && dir)) (le-ltb k (length p) h)
+
+  pub follows-deep : (dep : ℕ) → (dep ≡ 0 → ⊥) → length p ≤ dep - 1 → (dep - 1 ≡ length p → ⊥) → false ≡ follows p dir dep x
+  follows-deep zero z h n = absurd (z refl)
+  follows-deep (suc k) z h n =
+      let y : suc k - 1 ≡ k = omega arith in
+      sym (deeper k (omega arith) ∙ ap (λ (b : Bool). b && dir) (ne_eqb k (length p) (λ e. n (y ∙ e))))
+
+  pub follows-first : (dep : ℕ) → (dep ≡ 0 → ⊥) → dep - 1 ≡ length p → dir ≡ follows p dir dep x
+  follows-first zero z n = absurd (z refl)
+  follows-first (suc k) z n =
+      let y : suc k - 1 ≡ k = omega arith in
+      sym (deeper k (omega arith) ∙ ap (λ (b : Bool). b && dir) (eq-eqb k (length p) (sym y ∙ n)))
 
 -- ---- one entry
 
@@ -137,6 +165,11 @@ module _ (kind : ℕ → ℕ) (n w : ℕ) (ws : List ℕ) (bs : Bytes) (l : name
       sym (root_at ∙ ap (λ (t : Bool). t && walk_fits kind n [] true (rows ws (drop (nlen_of w) bs))) e ∙ ap (λ (k : ℕ). walk_fits kind n [] true (rows ws (drop k bs))) z)
 
 -- the names behind the first
+pub root-total-le : (ws : List ℕ) → name_total (drop 1 ws) ≤ name_total ws
+unfolding name_total
+root-total-le [] = omega arith
+root-total-le (w ∷ ws) = omega arith
+
 pub root-total : (w : ℕ) (ws : List ℕ) (bs : Bytes) → name_total (w ∷ ws) ≤ length bs → name_total ws ≤ length bs
 unfolding name_total
 root-total w ws bs h = omega arith

@@ -6,13 +6,13 @@ use mathlib.Core.Path.{◌≡◌, refl, ap}
 use Prim.Native.Nat.{ℕ, zero, suc, ◌+◌, ◌≤◌, ◌<◌}
 use native.Mathlib.Omega.{arith}
 use lib.Dec.{eqb}
-use lib.ListN.{length, get_or, set, replicate}
+use lib.ListN.{length, take, get_or, set, replicate}
 use borrow.Author.Tests.{eq-eqb, ne_eqb, eqb-true, eqb-false}
 use Rattle.std.proofs.lemmas.List.Sums.{sum_by-cons, sum_by-set}
 use Rattle.lawful_slots.specs.Uses.{filled}
 
 -- what one element adds
-abbrev one : ℕ → ℕ
+abbrev pub one : ℕ → ℕ
 one x = cond (not (eqb x 0)) 1 0
 
 one_of : (x : ℕ) → x ≡ 0 → one x ≡ 0
@@ -21,16 +21,26 @@ one_of x e = ap (λ (t : Bool). cond (not t) 1 0) (eq-eqb x 0 e)
 one_not : (x : ℕ) → (x ≡ 0 → ⊥) → one x ≡ 1
 one_not x n = ap (λ (t : Bool). cond (not t) 1 0) (ne_eqb x 0 n)
 
+pub one_most : (x : ℕ) → one x ≤ 1
+one_most x = go (eqb x 0)
+  where
+    go : (t : Bool) → cond (not t) 1 0 ≤ 1
+    go true = omega arith
+    go false = omega arith
+
+one_is : (x : ℕ) → one x ≡ cond (eqb x 0) 0 1
+one_is x = go (eqb x 0)
+  where
+    go : (t : Bool) → ◌≡◌ {A = ℕ} (cond (not t) 1 0) (cond t 0 1)
+    go true = refl
+    go false = refl
+
 one_le : (x y : ℕ) → (y ≡ 0 → x ≡ 0) → one x ≤ one y
 one_le x y f = go (eqb y 0) refl
   where
-    most : (t : Bool) → cond (not t) 1 0 ≤ 1
-    most true = omega arith
-    most false = omega arith
-
     go : (t : Bool) → eqb y 0 ≡ t → one x ≤ one y
     go true e = omega (arith, one_of x (f (eqb-true y 0 e)))
-    go false e = omega (arith, most (eqb x 0), one_not y (eqb-false y 0 e))
+    go false e = omega (arith, one_most x, one_not y (eqb-false y 0 e))
 
 -- an element that adds nothing
 one_zero : (x : ℕ) → one x ≤ 0 → x ≡ 0
@@ -46,6 +56,19 @@ more x xs = sum_by-cons one x xs
 pub filled_none : (n : ℕ) → filled (replicate n 0) ≡ 0
 filled_none zero = refl
 filled_none (suc n) = filled_none n
+
+pub filled-empty : 0 ≡ filled []
+filled-empty = refl
+
+pub filled_most : (xs : List ℕ) → filled xs ≤ length xs
+filled_most [] = omega arith
+filled_most (x ∷ xs) = omega (arith, more x xs, one_most x, filled_most xs)
+
+-- one element further
+pub filled_more : (xs : List ℕ) (i : ℕ) → i < length xs → filled (take (suc i) xs) ≡ filled (take i xs) + cond (eqb (get_or xs i 0) 0) 0 1
+filled_more [] i h = absurd (omega arith)
+filled_more (x ∷ xs) zero h = omega (arith, more x [], one_is x)
+filled_more (x ∷ xs) (suc i) h = let r = filled_more xs i (omega arith) in omega (arith, more x (take (suc i) xs), more x (take i xs))
 
 -- one element that was 0 is 1
 pub filled-set : (xs : List ℕ) (s : ℕ) → s < length xs → get_or xs s 0 ≡ 0 → filled (set xs s 1) ≡ suc (filled xs)

@@ -9,7 +9,7 @@ use lib.ListN.{length, take, drop, get_or, length-drop}
 use lib.Seq.{length-take-le, take-length, take_at, take-append-le, drop-append-le, take-take, take-suc, drop-drop, length-slice}
 use Rattle.std.proofs.lemmas.List.{drop-take}
 use Rattle.std.proofs.lemmas.Slice.{between_is}
-use Rattle.blocks.proofs.Cuts.{up_to}
+use Rattle.blocks.proofs.Cuts.{up_to, none_between}
 use Rattle.layout.specs.Fields.{depth_of, nlen_of, slot_of}
 use Rattle.layout.specs.Rows.{Row, rows, name_total}
 use Rattle.layout.specs.Slots.{total, split, contents}
@@ -31,6 +31,11 @@ total_end ws a h = ap name_total (sym (take-length ws)) ∙ total_on ws a (lengt
 
 pub total-take : (ws : List ℕ) (k : ℕ) → name_total (take k ws) ≤ name_total ws
 total-take ws k = omega (arith, total-split ws k)
+
+-- of none
+pub total_none : (ws : List ℕ) (a : ℕ) → 0 ≡ name_total (drop a (take a ws))
+unfolding name_total
+total_none ws a = sym (ap name_total (none_between ws a))
 
 -- with one more
 pub total-step : (ws : List ℕ) (a j : ℕ) → a ≤ j → j < length ws → name_total (drop a (take (suc j) ws)) ≡ name_total (drop a (take j ws)) + nlen_of (get_or ws j 0)

@@ -1,14 +1,19 @@
 -- A part of a list changed element by element. The depth of a word changes alone: it stands in the low bits. Assumes nothing.
-use mathlib.Core.Path.{◌≡◌, ap, ◌∙◌}
+use mathlib.Core.Path.{◌≡◌, sym, ap, ◌∙◌}
 use mathlib.Core.List.{List, ◌++◌, map, append-nil}
 use Prim.Native.Nat.{ℕ, suc, ◌+◌, ◌-◌, ◌^◌, ◌≤◌, ◌<◌}
 use native.Mathlib.Omega.{arith}
-use lib.ListN.{length, take, drop, get_or, length-map, length-take}
+use lib.ListN.{length, take, drop, get_or, length-map, length-take, take-append-drop}
 use lib.Seq.{take_all, length-take-le, drop-drop, drop-cons, get_or-take, get_or-drop, get_or_at}
 use Rattle.std.proofs.lemmas.List.{drop_all}
 use Rattle.std.proofs.lemmas.Slice.{between_is}
+use Rattle.blocks.proofs.Cuts.{none_between}
 use Rattle.layout.specs.Fields.{depth_of, nlen_of, slot_of}
 use Rattle.records.specs.Blocks.{changed, lift, Liftable, Liftables}
+
+-- none is
+pub change_none : (f : ℕ → ℕ) (s : List ℕ) (a : ℕ) → s ≡ changed f s a a
+change_none f s a = sym (ap (λ (l : List ℕ). take a s ++ (map f l ++ drop a s)) (none_between s a) ∙ take-append-drop a s)
 
 -- each of the part from a to b is changed
 pub change-part : {A : Type 0} (f : A → A) (s t : List A) (a b n : ℕ) → a ≤ b → length (take (b - a) (drop a s)) ≤ n

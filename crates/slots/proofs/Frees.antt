@@ -2,12 +2,24 @@
 -- Assumes nothing.
 use mathlib.Core.Path.{◌≡◌, refl, ap, ◌∙◌}
 use mathlib.Core.List.{List, [], ◌∷◌}
-use Prim.Native.Nat.{ℕ, zero, suc, ◌+◌, ◌<◌}
+use Prim.Native.Nat.{ℕ, zero, suc, ◌+◌, ◌≤◌, ◌<◌}
+use native.Mathlib.Numerals.{add-one}
 use native.Mathlib.Omega.{arith}
-use lib.ListN.{length, get_or}
+use lib.ListN.{length, drop, get_or, drop_of_length-le}
+use lib.Seq.{drop-cons}
 use lib.Dec.{eqb-suc-zero}
+use borrow.Author.Tests.{eq-eqb, ne_eqb}
 use Rattle.std.proofs.Common.{Some, None}
 use Rattle.slots.specs.Free.{free_from}
+
+pub free_on : (hs : List ℕ) (i k : ℕ) → i < length hs → (get_or hs i 0 ≡ 0 → ⊥) → free_from (drop i hs) k ≡ free_from (drop (suc i) hs) (suc k)
+free_on hs i k h n = rw (drop-cons hs i 0 h, ne_eqb (get_or hs i 0) 0 n, add-one k)
+
+pub free-here : (hs : List ℕ) (i k : ℕ) → i < length hs → get_or hs i 0 ≡ 0 → free_from (drop i hs) k ≡ Some k
+free-here hs i k h n = rw (drop-cons hs i 0 h, eq-eqb (get_or hs i 0) 0 n)
+
+pub free-end : (hs : List ℕ) (i k : ℕ) → length hs ≤ i → free_from (drop i hs) k ≡ None
+free-end hs i k h = rw (drop_of_length-le hs h)
 
 found_from : (hs : List ℕ) (k s : ℕ) → free_from hs k ≡ Some s → (i : ℕ) × (s ≡ k + i) × (i < length hs) × (get_or hs i 0 ≡ 0)
 found_from [] k s e = let z : ◌≡◌ {A = ℕ} 0 1 = cc in absurd (omega arith)

@@ -52,6 +52,10 @@ module _ {st : Store} {s : State} (h : Shows st s) {spot : Spot} {p : Path} (a :
   abbrev slot : ℕ
   slot = slot_of (get_or st.records spot.at 0)
 
+  -- its record is there
+  pub spot-low : spot.at < length st.records
+  spot-low = omega (arith, a.within, l.counted, l.exact.records)
+
   -- its slot is one of those so far
   pub spot-slot : slot < length (trim st).heads
   spot-slot = slot-low (trim st) l spot.at a.within

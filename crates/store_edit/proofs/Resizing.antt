@@ -10,7 +10,7 @@ use lib.ListN.{length, take}
 use lib.Seq.{length-take-le}
 use Rattle.model.specs.Tree.{Path}
 use Rattle.layout.specs.Rows.{Row, name_total, rows}
-use Rattle.layout.specs.Store.{Store, lent, most, count, extent, live, rows_of}
+use Rattle.layout.specs.Store.{Store, lent, most, room, count, extent, live, rows_of}
 use Rattle.layout.specs.Parts.{path_after}
 use Rattle.model.specs.Calls.States.{State}
 use Rattle.edit_room.specs.Extents.{trim, Roomy, Resized, Reserved, Released, OnSlots}
@@ -26,6 +26,9 @@ module _ (st u : Store) (r : Resized st u) where
 
   pub most_resized : most u ≡ most st
   most_resized = r.words 0 (λ e. omega (arith, e))
+
+  pub room-resized : room u ≡ room st
+  room-resized = r.words 1 (λ e. omega (arith, e))
 
   module _ (recs : u.records ≡ st.records) where
     pub live-resized : live (trim u) ≡ live (trim st)

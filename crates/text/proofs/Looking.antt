@@ -3,10 +3,11 @@
 use mathlib.Core.Bool.{Bool, true, false, ◌||◌, true≢false}
 use mathlib.Core.List.{[], ◌∷◌}
 use mathlib.Core.Path.{◌≡◌, refl, ap, ◌∙◌}
-use Prim.Native.Nat.{ℕ, zero, suc, ◌≤◌}
+use Prim.Native.Nat.{ℕ, zero, suc, ◌+◌, ◌≤◌}
 use native.Mathlib.Omega.{arith}
 use lib.Dec.{eqb, leb}
-use lib.ListN.{length, drop, drop_of_length-le}
+use lib.ListN.{length, drop, get_or, drop_of_length-le}
+use borrow.Author.Count.{below_more}
 use borrow.Author.Tests.{le-leb, eqb-false, leb-false}
 use Rattle.text.specs.Utf8.{Bytes, starts, char_length, octets, text}
 use Rattle.text.specs.Looks.{Plain}
@@ -20,6 +21,14 @@ or_left false b e = refl
 pub or_right : (a b : Bool) → a || b ≡ false → b ≡ false
 or_right true b e = absurd (true≢false e)
 or_right false b e = e
+
+-- one octet more
+pub plain_more : (s : Bytes) (a i : ℕ) (seen : Bool) → (seen ≡ false → Plain s a i)
+    → (seen || eqb (get_or s i 0) 0) || leb 128 (get_or s i 0) ≡ false → Plain s a (i + 1)
+plain_more s a i seen w e =
+    let b : ℕ = get_or s i 0 in
+    let o = or_left (seen || eqb b 0) (leb 128 b) e in
+    below_more _ i (w (or_left seen (eqb b 0) o)) (λ _. rw (or_right seen (eqb b 0) o) (or_right (seen || eqb b 0) (leb 128 b) e))
 
 -- such a stretch at the start does not decide
 pub plain-drop : (n : ℕ) (s : Bytes) → n ≤ length s → Plain s 0 n → text s ≡ text (drop n s)

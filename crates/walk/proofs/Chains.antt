@@ -152,8 +152,12 @@ pub record Chained (has : Store → Store) (h bound : ℕ) (text first out : Byt
   pub few : total + 41 * left ≤ 41 * 4096
   pub linked : All has h (λ st s w. Linked w bound text out left n total)
 
+pub chain-plain : (has : Store → Store) (h bound : ℕ) (out : Bytes) (n : ℕ) → n ≤ 1024 → Plain (take n out) → bound ≤ 4096
+    → Chained has h bound (take n out) out out bound n 0
+chain-plain has h bound out n f p b = record { fits = f; long = refl; plain = p; few = omega arith; linked = λ st s y w a. linked-start w bound out n }
+
 pub chain-start : (has : Store → Store) (h bound : ℕ) (out : Bytes) (n : ℕ) → PathIn out n → bound ≤ 4096 → Chained has h bound (take n out) out out bound n 0
-chain-start has h bound out n p b = record { fits = p.few; long = refl; plain = p.plain; few = omega arith; linked = λ st s y w a. linked-start w bound out n }
+chain-start has h bound out n p b = chain-plain has h bound out n p.few p.plain b
 
 module _ {has : Store → Store} {h bound : ℕ} {text first out : Bytes} {left n total : ℕ} (g : Chained has h bound text first out left n total) (after : Bytes) where
   pub chain-stopped : (r : Refusal) → All has h (λ st s w. Walks st s w h (take n out) after (Err r)) → All has h (λ st s w. Looks st s w h bound text after (Err r))

@@ -8,7 +8,7 @@ use native.Mathlib.Omega.{arith}
 use lib.ListN.{length, take, drop, length-append}
 use Rattle.std.specs.Prelude.{Ok, Err}
 use Rattle.text.specs.Utf8.{Bytes}
-use Rattle.path.specs.Path.{Name, names}
+use Rattle.path.specs.Path.{Name, names, body, pieces, keep, vanishes, same}
 use Rattle.path.specs.declared.answer.TooLong.{TooLong}
 use Rattle.path.specs.Answer.{Formed}
 use Rattle.model.specs.Tree.{Path}
@@ -39,6 +39,11 @@ abbrev pub All : (Store → Store) → ℕ → (Store → State → World → Ty
 All has h say = (st : Store) (s : State) → Shows (has st) s → (w : World) → Asked (has st) s h w → say (has st) s w
 
 -- ---- one walk
+
+-- no name is a path
+pub plain_none : (out : Bytes) → Plain (take 0 out)
+unfolding body names pieces keep vanishes same
+plain_none out = refl
 
 -- a lookup by its first walk
 by_walk : (w : World) (k : ℕ) (p : Path) (ls : List Path) (o : Out model.Met) → run (until_symlink [] p) w ≡ o
@@ -144,8 +149,13 @@ pub record Going (has : Store → Store) (h : ℕ) (text first out : Bytes) (n k
   pub few : k ≤ 40
   pub passed : All has h (λ st s w. Passed w text out n k)
 
+pub go-plain : (has : Store → Store) (h : ℕ) (out : Bytes) (n k : ℕ) → n ≤ 1024 → Plain (take n out) → k ≡ 0 → Going has h (take n out) out out n k
+go-plain has h out n k f p z =
+    subst (Going has h (take n out) out out n) (sym z)
+    (record { fits = f; long = refl; plain = p; few = omega arith; passed = λ st s y w a. pass-start w out n })
+
 pub go-start : (has : Store → Store) (h : ℕ) (out : Bytes) (n : ℕ) → PathIn out n → Going has h (take n out) out out n 0
-go-start has h out n p = record { fits = p.few; long = refl; plain = p.plain; few = omega arith; passed = λ st s y w a. pass-start w out n }
+go-start has h out n p = go-plain has h out n 0 p.few p.plain refl
 
 module _ {has : Store → Store} {h : ℕ} {text first out : Bytes} {n k : ℕ} (g : Going has h text first out n k) where
   pub go-stopped : (r : Refusal) → All has h (λ st s w. Meets st s w h (take n out) (Err r)) → (after : Bytes) → All has h (λ st s w. Walks st s w h text after (Err r))
